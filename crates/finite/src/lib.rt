@@ -1,0 +1,1 @@
+// Definitions and laws on the numbers below a bound; no code.
