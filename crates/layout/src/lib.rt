@@ -1,0 +1,1 @@
+// The theorems on the layout of sheets; no code.
