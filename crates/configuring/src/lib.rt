@@ -1,0 +1,1 @@
+// The theorems on Rule 1; no code.

@@ -1,0 +1,5 @@
+pub mod Free
+pub mod Topmost
+pub mod Joins
+pub mod Raised
+pub mod Eliminated

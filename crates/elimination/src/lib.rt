@@ -1,0 +1,1 @@
+// The theorems on free fragments; no code.

@@ -1,0 +1,1 @@
+// Theorem 6.2, from cycle to refusal; no code.

@@ -1,0 +1,11 @@
+pub mod Unsolvable
+pub mod Connected
+pub mod Trails
+pub mod Spelt
+pub mod Closing
+pub mod Thin
+pub mod Lift
+pub mod Alone
+pub mod RingExcludes
+pub mod Minimal
+pub mod Theorem62

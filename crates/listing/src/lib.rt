@@ -1,0 +1,1 @@
+// The theorems on the list of readings; no code.

@@ -1,0 +1,5 @@
+pub mod Shape
+pub mod Closure
+pub mod Table
+pub mod Fragments
+pub mod Forests

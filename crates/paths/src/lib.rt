@@ -1,0 +1,1 @@
+// The theorems on descent, forests and fragments; no code.

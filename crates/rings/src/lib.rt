@@ -1,0 +1,1 @@
+// The theorems on rings of coloured hops; no code.

@@ -1,0 +1,4 @@
+pub mod Halves
+pub mod Decisions
+pub mod Positions
+pub mod States

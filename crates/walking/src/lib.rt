@@ -1,0 +1,1 @@
+// The theorems on the walk through the readings; no code.
