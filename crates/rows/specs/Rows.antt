@@ -1,0 +1,26 @@
+-- Tables that code works on, and what they hold. A table of rows has 128 sets of nodes, two words each, in two lists.
+use Prim.Native.Nat.{ℕ, _≤_, _<_}
+use mathlib.Core.Path.{_≡_}
+use mathlib.Core.List.{List}
+use mathlib.Core.Bool.{Bool, true}
+use mathlib.Core.Logic.{_↔_}
+use lib.ListN.{length, getD}
+use Rattle.nodeset.specs.Set.{member}
+use Rattle.graph.specs.Graph as spec
+use Rattle.sheet.specs.Turn.{Holds}
+
+-- v is in row u
+abbrev pub inRow : List ℕ → List ℕ → ℕ → ℕ → Bool
+inRow low high u v = member (getD low u 0) (getD high u 0) v
+
+-- the rows hold the relation R
+pub record Rows (R : ℕ → ℕ → Type 0) (low high : List ℕ) : Type 0 where
+  pub low-long : length low ≡ 128
+  pub high-long : length high ≡ 128
+  pub row-is : (u v : ℕ) → (inRow low high u v ≡ true) ↔ R u v
+
+-- the tables of a well-formed graph's value: parents, and for each leaf the roots that its dominance edges go to
+pub record Tables (g : spec.Graph) (n : ℕ) (parents heads-low heads-high : List ℕ) (edges : ℕ) : Type 0 where
+  pub well-formed : spec.WellFormed g
+  pub nodes : n ≡ g .nodes
+  pub holds : Holds (g .nodes) (g .tree) (g .dominance) parents heads-low heads-high edges

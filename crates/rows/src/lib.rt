@@ -1,0 +1,1 @@
+// Tables of rows that hold a relation on the nodes; no code.
