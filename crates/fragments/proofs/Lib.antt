@@ -1,0 +1,3 @@
+pub mod Owned
+pub mod Held
+pub mod Answers
