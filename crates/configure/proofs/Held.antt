@@ -1,0 +1,149 @@
+-- What the tables and the bytes say of a graph that they are given for, and of a solved form of it: which nodes are
+-- inner, what lies above a node, and what a leaf carries.
+use Prim.Native.Nat.{ℕ, _≤_, _<_}
+use mathlib.Core.Path.{_≡_, sym, ap, _∙_}
+use mathlib.Core.List.{List}
+use mathlib.Core.Bool.{true, false, not}
+use mathlib.Core.Logic.{⊎-elim}
+use native.Mathlib.Omega.{arith}
+use lib.Dec.{eqb, leb}
+use lib.ListN.{length, getD}
+use borrow.Author.Tests.{eq-eqb, eqb-true, eqb-false, lt-ltb, leb-true}
+use Rattle.finite.specs.Below.{any, count}
+use Rattle.finite.proofs.Laws.{by-bool, any-at, any-found, any-cut, any-ext, count-ext}
+use Rattle.graph.specs.Graph.{Edge, Graph, entered, left, leaf, parent, none}
+use Rattle.graph.specs.Placing.{at, hangs}
+use Rattle.graph.specs.Rule1.{problem, up}
+use Rattle.layout.proofs.Edges.{parent-among, parent-unentered, parent-only, left-of-among, left-found}
+use Rattle.finite.proofs.Laws.{test-ext}
+use Rattle.layout.proofs.Spelling.{leaf-below}
+use Rattle.paths.proofs.Table.{hangs-parts}
+use Rattle.paths.proofs.Forests.{placing-cases, placing-length}
+use Rattle.configuring.proofs.Counting.{some-counted}
+use Rattle.nodeset.specs.Set.{mem}
+use Rattle.nodeset.specs.declared.NodeSet.{NodeSet}
+use Rattle.sheet.specs.Judge.{Parents, InnerSet, innerIn}
+use Rattle.configure.specs.Given.{GraphOf, Solved}
+use Rattle.configure.specs.Carried.{carried, Carrying}
+
+module _ (n : ℕ) (parents : List ℕ) (s : GraphOf n parents) where
+  pub few : n ≤ 128
+  few = omega (arith, s .tables .nodes, s .tables .well-formed .few-nodes)
+
+  pub parent-here : (v : ℕ) → v < n → getD parents v 0 ≡ parent (s .graph .tree) v
+  parent-here v h = s .tables .holds .parent-is v (omega (arith, few))
+
+  pub parentless : (v : ℕ) → v < n → getD parents v 0 ≡ none → entered (s .graph .tree) v ≡ false
+  parentless v h e =
+      by-bool (entered (s .graph .tree) v)
+      (λ (t : entered (s .graph .tree) v ≡ true).
+      let w = s .tables .holds .tree-within (parent (s .graph .tree) v) v (parent-among (s .graph .tree) v t) in
+      absurd (omega (arith, w .0, parent-here v h, e, s .tables .well-formed .few-nodes)))
+      (λ t. t)
+
+  pub with-parent : (v : ℕ) → v < n → (getD parents v 0 ≡ none → ⊥) → entered (s .graph .tree) v ≡ true
+  with-parent v h d =
+      by-bool (entered (s .graph .tree) v) (λ t. t) (λ t. absurd (d (parent-here v h ∙ parent-unentered (s .graph .tree) v t)))
+
+  pub parent-within : (v : ℕ) → v < n → (getD parents v 0 ≡ none → ⊥) → getD parents v 0 < n
+  parent-within v h d =
+      let w = s .tables .holds .tree-within (parent (s .graph .tree) v) v (parent-among (s .graph .tree) v (with-parent v h d)) in
+      omega (arith, w .0, parent-here v h, s .tables .nodes)
+
+  pub parents-given : Parents n parents
+  parents-given = record { few = few; long = s .tables .holds .parents-long; node-or-none = parent-within }
+
+  inner-held : (v : ℕ) → v < n → innerIn n parents v ≡ left (s .graph .tree) v
+  unfolding innerIn
+  inner-held v h =
+      let t : List Edge = s .graph .tree in
+      test-ext (any n (λ c. eqb (getD parents c 0) v)) (left t v)
+      (λ e.
+      let r = any-found n (λ c. eqb (getD parents c 0) v) e in
+      let is : getD parents (r .0) 0 ≡ v = eqb-true (getD parents (r .0) 0) v (r .2) in
+      let up : parent t (r .0) ≡ v = sym (parent-here (r .0) (r .1)) ∙ is in
+      left-of-among t v (r .0) (rw up at (parent-among t (r .0) (with-parent (r .0) (r .1) (λ d. omega (arith, few, is, d))))))
+      (λ e.
+      let r = left-found t v e in
+      let b = s .tables .holds .tree-within v (r .0) (r .1) in
+      let c : r .0 < n = omega (arith, b .1, s .tables .nodes) in
+      any-at n (λ c. eqb (getD parents c 0) v) (r .0) c
+      (eq-eqb (getD parents (r .0) 0) v (parent-here (r .0) c ∙ sym (parent-only t v (r .0) (s .tables .holds .one-parent) (r .1)))))
+
+  -- a leaf is a node that is not inner
+  pub leaf-held : (inner : NodeSet) → InnerSet n parents inner → (v : ℕ) → v < n → leaf (s .graph) v ≡ not (mem inner v)
+  unfolding leaf
+  leaf-held inner is v h =
+      let b : v < s .graph .nodes = omega (arith, h, s .tables .nodes) in
+      rw (lt-ltb v (s .graph .nodes) b, is v (omega (arith, few)), inner-held v h)
+
+module _ (n : ℕ) (parents p : List ℕ) (s : Solved n parents p) where
+  pub solved-length : length p ≡ n
+  solved-length = placing-length (s .sheet .graph) p (s .solved .is-placing) ∙ sym (s .sheet .tables .nodes)
+
+  pub up-parent : (v : ℕ) → v < n → (getD parents v 0 ≡ none → ⊥) → getD parents v 0 ≡ up (s .sheet .graph) p v
+  unfolding up
+  up-parent v h d = rw (with-parent n parents (s .sheet) v h d) (parent-here n parents (s .sheet) v h)
+
+  pub up-hung : (v : ℕ) → v < n → getD parents v 0 ≡ none → at p v ≡ up (s .sheet .graph) p v
+  unfolding up
+  up-hung v h e = rw (parentless n parents (s .sheet) v h e)
+
+  -- a node that hangs does so under a leaf
+  carried-hangs : (v : ℕ) → v < n → (at p v ≡ none → ⊥) → hangs (s .sheet .graph) p (at p v) v ≡ true
+  carried-hangs v h d =
+      ⊎-elim (λ e. absurd (d e)) (λ t. t) (placing-cases (s .sheet .graph) p v (s .solved .is-placing) (omega (arith, h, s .sheet .tables .nodes)))
+
+  hung-within : (v : ℕ) → v < n → (at p v ≡ none → ⊥) → at p v < n
+  hung-within v h d =
+      let g : Graph = s .sheet .graph in
+      omega (arith, leaf-below g (at p v) (hangs-parts g p (at p v) v (carried-hangs v h d) .0), s .sheet .tables .nodes)
+
+  pub up-within : (v : ℕ) → v < n → (up (s .sheet .graph) p v ≡ none → ⊥) → up (s .sheet .graph) p v < n
+  up-within v h d =
+      by-bool (eqb (getD parents v 0) none)
+      (λ (t : eqb (getD parents v 0) none ≡ true).
+      let e = up-hung v h (eqb-true (getD parents v 0) none t) in
+      rw (← e) (hung-within v h (λ i. d (sym e ∙ i))))
+      (λ (t : eqb (getD parents v 0) none ≡ false).
+      let i = eqb-false (getD parents v 0) none t in
+      rw (← (up-parent v h i)) (parent-within n parents (s .sheet) v h i))
+
+  -- under a node hangs what the bytes say
+  pub hangs-is : (l v : ℕ) → l < 128 → v < n → hangs (s .sheet .graph) p l v ≡ carried p l v
+  hangs-is l v hl hv =
+      let g : Graph = s .sheet .graph in
+      test-ext (hangs g p l v) (carried p l v)
+      (λ t. eq-eqb (at p v) l (hangs-parts g p l v t .2))
+      (λ t.
+      let e : at p v ≡ l = eqb-true (at p v) l t in
+      rw e at (carried-hangs v hv (λ i. omega (arith, e, i, hl))))
+
+  pub problem-is : (l : ℕ) → l < 128 → problem (s .sheet .graph) p l ≡ leb 2 (count n (carried p l))
+  unfolding problem
+  problem-is l h =
+      let g : Graph = s .sheet .graph in
+      let same : n ≡ g .nodes = s .sheet .tables .nodes in
+      rw (count-ext (g .nodes) (hangs g p l) (carried p l) (λ v b. hangs-is l v h (omega arith)))
+      (ap (λ (m : ℕ). leb 2 (count m (carried p l))) (sym same))
+
+  module _ (leaves : NodeSet) (c : Carrying 2 n p leaves) where
+    pub several-is : (l : ℕ) → l < 128 → mem leaves l ≡ problem (s .sheet .graph) p l
+    several-is l h = c l h ∙ sym (problem-is l h)
+
+    -- what carries roots is a node
+    several-within : (l : ℕ) → l < 128 → mem leaves l ≡ true → l < n
+    several-within l h t =
+        let two : 2 ≤ count n (carried p l) = leb-true 2 (count n (carried p l)) (sym (c l h) ∙ t) in
+        let r = any-found n (carried p l) (some-counted n (carried p l) (omega arith)) in
+        let e : at p (r .0) ≡ l = eqb-true (at p (r .0)) l (r .2) in
+        omega (arith, e, hung-within (r .0) (r .1) (λ i. omega (arith, e, i, h)))
+
+    pub any-several : any 128 (mem leaves) ≡ any n (mem leaves)
+    any-several = any-cut 128 n (mem leaves) (few n parents (s .sheet)) several-within
+
+    pub any-problem : any 128 (mem leaves) ≡ any (s .sheet .graph .nodes) (problem (s .sheet .graph) p)
+    any-problem =
+        any-several
+        ∙ any-ext n (mem leaves) (problem (s .sheet .graph) p) (λ l h. several-is l (omega (arith, few n parents (s .sheet))))
+        ∙ ap (λ (m : ℕ). any m (problem (s .sheet .graph) p)) (s .sheet .tables .nodes)

@@ -1,0 +1,4 @@
+pub mod Held
+pub mod Climbing
+pub mod Choosing
+pub mod Stepping

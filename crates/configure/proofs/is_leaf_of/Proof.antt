@@ -1,0 +1,35 @@
+-- A leaf is a node that is not inner; its fragment is that of the root that it climbs to.
+use borrow.Author.Needs.{needs}
+use mathlib.Core.Path.{_≡_, sym, _∙_}
+use mathlib.Core.Bool.{true, false}
+use denote.Ref.{now}
+use Rattle.nodeset.specs.Set.{mem}
+use Rattle.graph.specs.Graph.{leafOf}
+use Rattle.configure.proofs.Held.{leaf-held}
+use Rattle.configure.proofs.is_leaf_of.Statement.{statement}
+use Rattle.configure.proofs.is_leaf_of.Tie as tie
+
+has-requires : tie.Need-has-requires
+has-requires c κs = search needs
+
+returns : tie.Need-returns
+unfolding leafOf
+returns c = λ s.
+    let t = c .before .before .before in
+    let a = t .args in
+    let inner : mem (a .inner) (a .v) ≡ true = sym (c .before .has .ensures) ∙ c .if1 .taken in
+    rw (leaf-held (a .n) (now (a .parent)) s (a .inner) (t .pre .1) (a .v) (t .pre .2), inner)
+
+climb-requires : tie.Need-climb-requires
+climb-requires c κs = search needs
+
+returns-2 : tie.Need-returns-2
+unfolding leafOf
+returns-2 c = λ s.
+    let t = c .before .before .before .before in
+    let a = t .args in
+    let inner : mem (a .inner) (a .v) ≡ false = sym (c .before .before .has .ensures) ∙ c .before .if1 .left in
+    rw (leaf-held (a .n) (now (a .parent)) s (a .inner) (t .pre .1) (a .v) (t .pre .2), inner, c .climb .ensures s)
+
+pub is-leaf-of-spec : {M : Type 1} → statement M
+is-leaf-of-spec = tie.close (tie.spec has-requires returns climb-requires returns-2)

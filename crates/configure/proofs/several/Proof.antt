@@ -1,0 +1,87 @@
+-- The first set holds the leaves that carry a root of those passed, the second those that carry two.
+use borrow.Author.Needs.{needs}
+use native.Mathlib.Omega.{arith}
+use Prim.Native.Nat.{_-_, _≤_}
+use mathlib.Core.Path.{_≡_, sym, _∙_}
+use denote.Ref.{now}
+use Rattle.configure.specs.Carried.{Carrying}
+use Rattle.configure.proofs.Choosing.{carrying-none, once-more, twice-more}
+use Rattle.configure.proofs.several.Statement.{statement}
+use Rattle.configure.proofs.several.Tie as tie
+
+abbrev Inv-loop : tie.InvT-loop
+Inv-loop p n once₀ twice₀ v₀ once twice v = (v ≤ n) × Carrying 1 v p once × Carrying 2 v p twice
+
+abbrev μ-loop : tie.MeasureT-loop
+μ-loop p n once₀ twice₀ v₀ once twice v = n - v
+
+empty-requires : tie.Need-empty-requires Inv-loop μ-loop
+empty-requires c κs = search needs
+
+empty-requires-2 : tie.Need-empty-requires-2 Inv-loop μ-loop
+empty-requires-2 c κs = search needs
+
+loop-holds : tie.Need-loop-holds Inv-loop μ-loop
+loop-holds c =
+    let p = now (c .before .before .before .args .p) in (
+      omega arith,
+      λ l h. c .before .empty .ensures l ∙ sym (carrying-none 0 l p),
+      λ l h. c .empty2 .ensures l ∙ sym (carrying-none 1 l p),
+    )
+
+shared-slice-read-leaf-set : tie.Need-shared-slice-read-leaf-set Inv-loop μ-loop
+shared-slice-read-leaf-set c = search needs
+
+leaf-set-requires : tie.Need-leaf-set-requires Inv-loop μ-loop
+leaf-set-requires c κs = search needs
+
+intersection-requires : tie.Need-intersection-requires Inv-loop μ-loop
+intersection-requires c κs = search needs
+
+union-requires : tie.Need-union-requires Inv-loop μ-loop
+union-requires c κs = search needs
+
+union-requires-2 : tie.Need-union-requires-2 Inv-loop μ-loop
+union-requires-2 c κs = search needs
+
+add-v : tie.Need-add-v Inv-loop μ-loop
+add-v c = search needs
+
+loop-less : tie.Need-loop-less Inv-loop μ-loop
+loop-less c = search needs
+
+loop-again : tie.Need-loop-again Inv-loop μ-loop
+loop-again c =
+    let f = c .before .before .before in
+    let l = f .before .before .before .loop in
+    let p = now (f .before .before .before .before .before .before .before .args .p) in (
+      omega arith,
+      λ k h. c .union2 .ensures k ∙ rw (f .leaf-set .ensures k h, l .inv .1 k h) (sym (once-more (l .v) p k)),
+      λ k h. c .before .union .ensures k ∙ rw (c .before .before .intersection .ensures k, f .leaf-set .ensures k h, l .inv .1 k h, l .inv .2 k h) (sym (twice-more (l .v) p k)),
+    )
+
+returns : tie.Need-returns Inv-loop μ-loop
+returns c =
+    let l = c .before .loop in
+    let a = c .before .before .before .before .before .args in
+    let all : l .v ≡ a .n = omega arith in
+    λ k h. l .inv .2 k h ∙ rw all
+
+pub several-spec : {M : Type 1} → statement M
+several-spec =
+    tie.close
+    (tie.spec
+    Inv-loop
+    μ-loop
+    empty-requires
+    empty-requires-2
+    loop-holds
+    shared-slice-read-leaf-set
+    leaf-set-requires
+    intersection-requires
+    union-requires
+    union-requires-2
+    add-v
+    loop-less
+    loop-again
+    returns)

@@ -1,0 +1,160 @@
+// The closure of a graph's or a placing's edges as rows: of each node the set of nodes under it, in two lent slices of
+// 128 words. An edge is added to closed rows in one pass over them.
+use nodeset::NodeSet;
+use sheet::NONE;
+ghost use mathlib.Core.Path.{_≡_};
+ghost use mathlib.Core.Bool.{true, false};
+ghost use mathlib.Core.List.{List};
+ghost use Prim.Native.Nat.{ℕ, _≤_, _<_};
+ghost use lib.ListN.{take};
+ghost use Rattle.finite.specs.Below.{any};
+ghost use Rattle.nodeset.specs.Set.{mem};
+ghost use Rattle.graph.specs.Graph.{Graph, Descent, none};
+ghost use Rattle.graph.specs.Placing.{placing as placingOf, Below};
+ghost use Rattle.sheet.specs.Judge.{Parents};
+ghost use Rattle.rows.specs.Rows.{inRow, Rows, Tables};
+ghost use Rattle.descent.specs.Closing.{Long, Extended, RowExtended, Links, linkTo, linkIn, headOf, headIn, Adds};
+
+// What lies under v.
+pub fn under(low: &[u64], high: &[u64], v: usize) -> NodeSet
+    requires { ⌜ Long (now low) (now high) × (v < 128) ⌝ }
+    ensures { λ r. ⌜ ((x : ℕ) → mem r x ≡ inRow (now (low .entry)) (now (high .entry)) v x) ⌝ }
+{
+    NodeSet {
+        low: low[v],
+        high: high[v],
+    }
+}
+
+// v lies under u.
+pub fn descends(low: &[u64], high: &[u64], u: usize, v: usize) -> bool
+    requires { ⌜ Long (now low) (now high) × (u < 128) × (v < 128) ⌝ }
+    ensures { λ r. ⌜ r ≡ inRow (now (low .entry)) (now (high .entry)) u v ⌝ }
+{
+    under(low, high, u).has(v)
+}
+
+// Some node below n lies under itself.
+pub fn cyclic(low: &[u64], high: &[u64], n: usize) -> bool
+    requires { ⌜ Long (now low) (now high) × (n ≤ 128) ⌝ }
+    ensures { λ r. ⌜ r ≡ any n (λ u. inRow (now (low .entry)) (now (high .entry)) u u) ⌝ }
+{
+    for u in 0..n {
+        if descends(low, high, u, u) {
+            return true;
+        }
+    }
+    false
+}
+
+// Row x with `more` joined in, where x is a or has a under it.
+fn extend(low: &mut [u64], high: &mut [u64], a: usize, x: usize, more: NodeSet)
+    requires { ⌜ Long (now low) (now high) × (a < 128) × (x < 128) ⌝ }
+    ensures { λ _. ⌜ RowExtended a x more (now (low .entry)) (now (high .entry)) (now (low .exit)) (now (high .exit)) ⌝ }
+{
+    let row = under(low, high, x);
+    if row.with(x).has(a) {
+        let joined = row.union(more);
+        low[x] = joined.low;
+        high[x] = joined.high;
+    }
+}
+
+// The edge from a to r, added to closed rows. Row r is taken before any row changes, so cycles do no harm.
+pub fn add_edge(low: &mut [u64], high: &mut [u64], n: usize, a: usize, r: usize)
+    requires { ⌜ Long (now low) (now high) × (n ≤ 128) × (a < n) × (r < 128) ⌝ }
+    ensures { λ _. ⌜ Extended n a r (now (low .entry)) (now (high .entry)) (now (low .exit)) (now (high .exit)) ⌝ }
+{
+    let more = under(low, high, r).with(r);
+    for x in 0..n {
+        extend(low, high, a, x, more);
+    }
+}
+
+fn clear(low: &mut [u64], high: &mut [u64])
+    requires { ⌜ Long (now low) (now high) ⌝ }
+    ensures { λ _. ⌜ ((u v : ℕ) → inRow (now (low .exit)) (now (high .exit)) u v ≡ false) ⌝ }
+{
+    for u in 0..128 {
+        low[u] = 0;
+        high[u] = 0;
+    }
+}
+
+// The edge to v from the node above it, where there is one.
+fn add_link(low: &mut [u64], high: &mut [u64], n: usize, above: u8, v: usize)
+    requires { ⌜ Long (now low) (now high) × (n ≤ 128) × (v < 128) × ((above ≡ none → ⊥) → above < n) ⌝ }
+    ensures { λ _. ⌜ Adds n (linkTo above v) (now (low .entry)) (now (high .entry)) (now (low .exit)) (now (high .exit)) ⌝ }
+{
+    if above != NONE {
+        add_edge(low, high, n, above as usize, v);
+    }
+}
+
+fn add_links(links: &[u8], n: usize, low: &mut [u64], high: &mut [u64])
+    requires { ⌜ Links n (now links) × Long (now low) (now high) × (n ≤ 128) ⌝ }
+    ensures { λ _. ⌜ Adds n (linkIn n (now (links .entry))) (now (low .entry)) (now (high .entry)) (now (low .exit)) (now (high .exit)) ⌝ }
+{
+    for v in 0..n {
+        add_link(low, high, n, links[v], v);
+    }
+}
+
+// The edges from l to the members of the row.
+fn add_row(row: NodeSet, l: usize, n: usize, low: &mut [u64], high: &mut [u64])
+    requires { ⌜ Long (now low) (now high) × (n ≤ 128) × (l < n) ⌝ }
+    ensures { λ _. ⌜ Adds n (headOf l row) (now (low .entry)) (now (high .entry)) (now (low .exit)) (now (high .exit)) ⌝ }
+{
+    let mut left = row;
+    while !left.is_empty() {
+        let r = left.lowest();
+        add_edge(low, high, n, l, r);
+        left = left.without(r);
+    }
+}
+
+fn add_heads(heads_low: &[u64], heads_high: &[u64], n: usize, low: &mut [u64], high: &mut [u64])
+    requires { ⌜ Long (now «heads_low») (now «heads_high») × Long (now low) (now high) × (n ≤ 128) ⌝ }
+    ensures { λ _. ⌜ Adds n (headIn n (now («heads_low» .entry)) (now («heads_high» .entry))) (now (low .entry)) (now (high .entry)) (now (low .exit)) (now (high .exit)) ⌝ }
+{
+    for l in 0..n {
+        let row = NodeSet {
+            low: heads_low[l],
+            high: heads_high[l],
+        };
+        add_row(row, l, n, low, high);
+    }
+}
+
+// The descent relation of the graph that the tables hold.
+pub fn graph_rows(
+    parent: &[u8],
+    heads_low: &[u64],
+    heads_high: &[u64],
+    n: usize,
+    low: &mut [u64],
+    high: &mut [u64],
+)
+    requires { ⌜ Parents n (now parent) × Long (now «heads_low») (now «heads_high») × Long (now low) (now high) ⌝ }
+    ensures { λ _. ⌜
+        ((g : Graph) (edges : ℕ) → Tables g n (now (parent .entry)) (now («heads_low» .entry)) (now («heads_high» .entry)) edges →
+        Rows (Descent g) (now (low .exit)) (now (high .exit)))
+        ⌝ }
+{
+    clear(low, high);
+    add_links(parent, n, low, high);
+    add_heads(heads_low, heads_high, n, low, high);
+}
+
+// The descent relation of a placing, the first n bytes, of a graph with these parents.
+pub fn placing_rows(parent: &[u8], placing: &[u8], n: usize, low: &mut [u64], high: &mut [u64])
+    requires { ⌜ Parents n (now parent) × Links n (now placing) × Long (now low) (now high) ⌝ }
+    ensures { λ _. ⌜
+        ((g : Graph) (lows highs : List ℕ) (edges : ℕ) → Tables g n (now (parent .entry)) lows highs edges →
+        placingOf g (take n (now (placing .entry))) ≡ true → Rows (Below g (take n (now (placing .entry)))) (now (low .exit)) (now (high .exit)))
+        ⌝ }
+{
+    clear(low, high);
+    add_links(parent, n, low, high);
+    add_links(placing, n, low, high);
+}

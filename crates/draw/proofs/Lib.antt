@@ -1,0 +1,5 @@
+pub mod Texts
+pub mod Loops
+pub mod Runs
+pub mod Bound
+pub mod Held

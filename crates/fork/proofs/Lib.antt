@@ -1,0 +1,7 @@
+pub mod Members
+pub mod Counts
+pub mod Trees
+pub mod Tops
+pub mod Staying
+pub mod Forks
+pub mod Hanging

@@ -1,0 +1,47 @@
+// Rule 2: the roots that a leaf's edges go to, those that are redundant left out.
+use nodeset::NodeSet;
+ghost use mathlib.Core.Path.{_≡_};
+ghost use Prim.Native.Nat.{ℕ, _<_};
+ghost use Rattle.nodeset.specs.Set.{mem};
+ghost use Rattle.rows.specs.Rows.{inRow};
+ghost use Rattle.fork.specs.Given.{Long};
+ghost use Rattle.fork.specs.Staying.{Tops, Heads};
+
+fn row(low: &[u64], high: &[u64], u: usize) -> NodeSet
+    requires { ⌜ Long (now low) (now high) × (u < 128) ⌝ }
+    ensures { λ r. ⌜ ((v : ℕ) → mem r v ≡ inRow (now (low .entry)) (now (high .entry)) u v) ⌝ }
+{
+    NodeSet {
+        low: low[u],
+        high: high[u],
+    }
+}
+
+// The members of the set that are in no member's row. In closed rows a member that is in a row already read has nothing
+// new in its own, and is passed over.
+fn tops(low: &[u64], high: &[u64], set: NodeSet) -> NodeSet
+    requires { ⌜ Long (now low) (now high) ⌝ }
+    ensures { λ r. ⌜ Tops set (now (low .entry)) (now (high .entry)) r ⌝ }
+{
+    let mut top = set;
+    let mut left = set;
+    while !left.is_empty() {
+        let x = left.lowest();
+        let under = row(low, high, x);
+        top = top.difference(under);
+        left = left.without(x).difference(under);
+    }
+    top
+}
+
+// No root, if l is no leaf.
+pub fn heads(low: &[u64], high: &[u64], leaves: NodeSet, roots: NodeSet, l: usize) -> NodeSet
+    requires { ⌜ Long (now low) (now high) × (l < 128) ⌝ }
+    ensures { λ r. ⌜ Heads leaves roots (now (low .entry)) (now (high .entry)) l r ⌝ }
+{
+    if leaves.has(l) {
+        tops(low, high, row(low, high, l).intersection(roots))
+    } else {
+        NodeSet::empty()
+    }
+}

@@ -1,0 +1,177 @@
+-- The guided descent, step by step: the root of a fragment, the half that the placing is in, the graph after a choice, and
+-- the end.
+use Prim.Native.Nat.{ℕ, zero, suc, _+_, _-_, _*_, _≤_, _<_}
+use mathlib.Core.Path.{_≡_, refl, sym, subst, _∙_}
+use mathlib.Core.List.{List}
+use mathlib.Core.Bool.{Bool, true, false, not, true≢false}
+use mathlib.Core.Logic.{⊎-elim, _↔_}
+use native.Mathlib.Omega.{arith}
+use lib.Dec.{eqb}
+use lib.ListN.{getD}
+use borrow.Author.Tests.{eq-eqb, ne-eqb}
+use Rattle.nodeset.specs.declared.NodeSet.{NodeSet}
+use Rattle.graph.specs.Graph.{Graph, Descent, entered, parent, top, own, none}
+use Rattle.graph.specs.Order.{Choice, adding}
+use Rattle.graph.specs.Placing.{Below, SolvedForm, Reading}
+use Rattle.paths.proofs.Shape.{Shaped}
+use Rattle.paths.proofs.Forests.{below-adding, solved-adding}
+use Rattle.listing.proofs.Choosing.{Unforked, pairs, pairs-le, first-shaped, second-shaped, choice-splits, first-grows, second-grows}
+use Rattle.listing.proofs.Settled.{settled}
+use Rattle.listing.proofs.Readings.{reading-least}
+use Rattle.listing.proofs.Guided.{Leads, arrived, to-first, to-second, solved-loopless, leads-solved, leads-within, leads-reading}
+use Rattle.sheet.proofs.Turns.{parent-tells}
+use Rattle.rows.specs.Rows.{inRow, Rows}
+use Rattle.descent.specs.Closing.{Extended}
+use Rattle.descent.proofs.Laws.{rows-map, adding-rows}
+use Rattle.fork.specs.Given.{TreeOf, Ends}
+use Rattle.fork.specs.Chosen.{Bounded, Chosen}
+use Rattle.fork.specs.declared.choose.Fork.{Fork}
+use Rattle.fork.specs.declared.choose.Fork.the-variants.{None, At}
+use Rattle.fork.proofs.Trees.{tree-adding, ends-adding}
+use Rattle.placings.specs.Guide.{Into, HalfOf, Standing, Arrived}
+use Rattle.placings.specs.declared.guide.Edge.{Edge}
+
+-- one edge up
+
+module _ (g : Graph) (s : Shaped g) (n : ℕ) (parents : List ℕ) (t : TreeOf g n parents) (v : ℕ) (h : v < n) where
+  parent-of : getD parents v 0 ≡ parent (g .tree) v
+  parent-of = t .parent-is v (omega (arith, t .nodes, s .few-nodes))
+
+  has-parent : entered (g .tree) v ≡ not (eqb (getD parents v 0) none)
+  has-parent = rw parent-of (parent-tells (g .nodes) (g .tree) v (s .few-nodes) (s .tree-within))
+
+  pub top-ends : (k : ℕ) → getD parents v 0 ≡ none → top k (g .tree) v ≡ v
+  unfolding top
+  top-ends zero e = refl
+  top-ends (suc k) e = rw (has-parent, eq-eqb (getD parents v 0) none e)
+
+  pub top-goes-on : (k : ℕ) → 0 < k → (getD parents v 0 ≡ none → ⊥) → top (k - 1) (g .tree) (getD parents v 0) ≡ top k (g .tree) v
+  unfolding top
+  top-goes-on zero l e = absurd (omega arith)
+  top-goes-on (suc k) l e =
+      let less : suc k - 1 ≡ k = omega arith in
+      rw (less, has-parent, ne-eqb (getD parents v 0) none e, parent-of)
+
+pub top-stops : (g : Graph) (k v : ℕ) → k ≤ 0 → top k (g .tree) v ≡ v
+unfolding top
+top-stops g zero v h = refl
+top-stops g (suc k) v h = absurd (omega arith)
+
+pub top-own : (g : Graph) (n v : ℕ) → n ≡ g .nodes → top n (g .tree) v ≡ own g v
+unfolding own
+top-own g n v e = rw e
+
+-- the half that p is in
+
+module _ (g : Graph) (p : List ℕ) {low high : List ℕ} (rows : Rows (Below g p) low high) (a b over : ℕ) (is : over ≡ own g b) where
+  pub first-half : inRow low high a over ≡ true → Into g p a b a over
+  first-half t = (refl, is, rows .row-is a over .0 t)
+
+  pub second-half : Shaped g → {v : ℕ} → Choice g v a b → SolvedForm g p → inRow low high a over ≡ false → (up : ℕ) → up ≡ own g a → Into g p b a b up
+  second-half s c f t up e = (
+    refl,
+    e,
+    ⊎-elim
+        (λ (d : Below g p a (own g b)). absurd (true≢false (sym (rows .row-is a over .1 (rw is d)) ∙ t)))
+        (λ (d : Below g p b (own g a)). rw e d)
+        (choice-splits g s c p f),
+  )
+
+-- one choice
+
+pub none-left : (g : Graph) {r : Fork} → r ≡ None → Chosen g r → Unforked g
+none-left g e x = rw e at x
+
+pub choice-there : (g : Graph) {r : Fork} {v a b : ℕ} → r ≡ At v a b → Chosen g r → Choice g v a b
+choice-there g e x = rw e at x
+
+pub bounds-there : (n : ℕ) {r : Fork} {v a b : ℕ} → r ≡ At v a b → Bounded n r → (v < n) × (a < n) × (b < n)
+bounds-there n e x = rw e at x
+
+module _ {g : Graph} {p : List ℕ} {n : ℕ} {parents : List ℕ} {leaves roots : NodeSet} {under-low under-high : List ℕ} {k : ℕ} {low high : List ℕ}
+    (st : Standing g p n parents leaves roots under-low under-high k low high) where
+  onward : (l r : ℕ) {low′ high′ : List ℕ} → l < n → Shaped (adding (st .graph) l r) → Below (st .graph) p l r → pairs (st .graph) < pairs (adding (st .graph) l r)
+      → ((q : List ℕ) → Leads (adding (st .graph) l r) p q → Leads (st .graph) p q) → Extended n l r low high low′ high′
+      → Standing g p n parents leaves roots under-low under-high (k - 1) low′ high′
+  onward l r {low′} {high′} within shaped d grown way x =
+      let h : Graph = st .graph in
+      let same : n ≡ h .nodes = st .tree .nodes in
+      let f : SolvedForm (adding h l r) p = solved-adding h l r p .1 (st .solved, d) in
+      record {
+        graph = adding h l r;
+        given = record {
+          shaped = shaped;
+          loopless = solved-loopless f;
+          ends = ends-adding h n leaves roots l r (st .given .ends);
+          rows = adding-rows h (st .given .shaped) (st .given .rows) l r (omega arith) (subst (λ (m : ℕ). Extended m l r low high low′ high′) same x);
+        };
+        tree = tree-adding h n parents l r (st .tree);
+        solved = f;
+        under = rows-map (λ u v. let b = below-adding h l r p u v in (b .1, b .0)) (st .under);
+        leads = λ q y. st .leads q (way q y);
+        enough = omega (arith, st .enough);
+      }
+
+  pub turned : (v a b : ℕ) (e : Edge) {low′ high′ : List ℕ} → e .leaf < n → Choice (st .graph) v a b → HalfOf (st .graph) p a b e
+      → Extended n (e .leaf) (e .root) low high low′ high′ → Standing g p n parents leaves roots under-low under-high (k - 1) low′ high′
+  turned v a b e within c half x =
+      let h : Graph = st .graph in
+      let s : Shaped h = st .given .shaped in
+      let l : ℕ = e .leaf in
+      let r : ℕ = e .root in
+      ⊎-elim
+      (λ (i : Into h p a b l r).
+      let d : Below h p a (own h b) = subst (λ (y : ℕ). Below h p a y) (i .1) (subst (λ (y : ℕ). Below h p y r) (i .0) (i .2)) in
+      onward l r within
+      (rw (i .0, i .1) (first-shaped h s c)) (i .2) (rw (i .0, i .1) (first-grows h s (st .given .loopless) c))
+      (λ q y. to-first v a b c d (subst (λ (m : ℕ). Leads (adding h a m) p q) (i .1) (subst (λ (m : ℕ). Leads (adding h m r) p q) (i .0) y))) x)
+      (λ (i : Into h p b a l r).
+      let d : Below h p b (own h a) = subst (λ (y : ℕ). Below h p b y) (i .1) (subst (λ (y : ℕ). Below h p y r) (i .0) (i .2)) in
+      onward l r within
+      (rw (i .0, i .1) (second-shaped h s c)) (i .2) (rw (i .0, i .1) (second-grows h s (st .given .loopless) c))
+      (λ q y. to-second v a b c d (subst (λ (m : ℕ). Leads (adding h b m) p q) (i .1) (subst (λ (m : ℕ). Leads (adding h m r) p q) (i .0) y))) x)
+      half
+
+  pub ended : Unforked (st .graph) → Arrived g p n leaves roots low high
+  ended o =
+      record {
+        graph = st .graph;
+        given = st .given;
+        unforked = o;
+        leads = st .leads (settled (st .graph)) (arrived (st .given .loopless) o);
+      }
+
+  pub not-over : k ≤ 0 → ⊥
+  not-over h =
+      let most : pairs (st .graph) ≤ n * n = rw (st .tree .nodes) (pairs-le (st .graph)) in
+      omega (arith, st .enough)
+
+-- the end
+
+-- p is a reading where the way from p ends in it
+leads-iff : {g : Graph} {p q : List ℕ} → Leads g p q → Shaped g → SolvedForm g p → (q ≡ p) ↔ Reading g p
+leads-iff {g} {p} {q} x s f = (
+  λ e. subst (Reading g) e (leads-reading x s),
+  λ r. reading-least g s p q r (leads-solved x s) (leads-within x s f),
+)
+
+pub reads : {g : Graph} {p : List ℕ} {n : ℕ} {leaves roots : NodeSet} {low high : List ℕ} (answer : Bool) (x : Arrived g p n leaves roots low high)
+    → ((answer ≡ true) ↔ (settled (x .graph) ≡ p)) → Shaped g → SolvedForm g p → (answer ≡ true) ↔ Reading g p
+reads answer x e s f =
+    let i = leads-iff (x .leads) s f in
+    (λ t. i .0 (e .0 t), λ r. e .1 (i .1 r))
+
+-- the start
+
+pub started : (g : Graph) (p : List ℕ) (n : ℕ) (parents : List ℕ) (leaves roots : NodeSet) (under-low under-high low high : List ℕ) → Shaped g → TreeOf g n parents → Ends g n leaves roots
+    → Rows (Below g p) under-low under-high → SolvedForm g p → Rows (Descent g) low high → Standing g p n parents leaves roots under-low under-high (n * n + 1) low high
+started g p n parents leaves roots under-low under-high low high s t e under f rows =
+    record {
+      graph = g;
+      given = record { shaped = s; loopless = solved-loopless f; ends = e; rows = rows };
+      tree = t;
+      solved = f;
+      under = under;
+      leads = λ q y. y;
+      enough = omega arith;
+    }

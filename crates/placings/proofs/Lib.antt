@@ -1,0 +1,3 @@
+pub mod Shapes
+pub mod Guides
+pub mod Verdicts

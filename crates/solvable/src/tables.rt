@@ -1,0 +1,96 @@
+// What the test looks up: rows of sets, the leaves of each fragment, the roots comparable with a root.
+use nodeset::NodeSet;
+use sheet::NONE;
+ghost use mathlib.Core.Path.{_≡_};
+ghost use Prim.Native.Nat.{_<_};
+ghost use Rattle.graph.specs.Graph.{Graph, own};
+ghost use Rattle.nodeset.specs.Set.{mem};
+ghost use Rattle.paths.proofs.Shape.{Shaped};
+ghost use Rattle.rows.specs.Rows.{inRow};
+ghost use Rattle.sheet.specs.Judge.{Parents, InnerSet};
+ghost use Rattle.solvable.specs.Tables.{TreeOf, Long, IsRow, Blank, Put, PutAll, LeafRows, NearRows};
+
+pub fn row(low: &[u64], high: &[u64], u: usize) -> NodeSet
+    requires { ⌜ Long (now low) (now high) × (u < 128) ⌝ }
+    ensures { λ r. ⌜ IsRow (inRow (now (low .entry)) (now (high .entry))) u r ⌝ }
+{
+    NodeSet {
+        low: low[u],
+        high: high[u],
+    }
+}
+
+// The members of the set, put into row u.
+fn put(low: &mut [u64], high: &mut [u64], u: usize, set: NodeSet)
+    requires { ⌜ Long (now low) (now high) × (u < 128) ⌝ }
+    ensures { λ _. ⌜ Put (inRow (now (low .entry)) (now (high .entry))) u set (now (low .exit)) (now (high .exit)) ⌝ }
+{
+    let more = row(low, high, u).union(set);
+    low[u] = more.low;
+    high[u] = more.high;
+}
+
+// The root of v's fragment: up to a node without a parent.
+fn root_of(parent: &[u8], n: usize, v: usize) -> usize
+    requires { ⌜ Parents n (now parent) × (v < n) ⌝ }
+    ensures { λ r. ⌜ r < n ⌝ }
+    ensures { λ r. ⌜ ((g : Graph) → Shaped g → TreeOf g n (now (parent .entry)) → r ≡ own g v) ⌝ }
+{
+    let mut at = v;
+    let mut left = n;
+    while 0 < left {
+        let above = parent[at];
+        if above == NONE {
+            return at;
+        }
+        at = above as usize;
+        left -= 1;
+    }
+    at
+}
+
+// Each leaf in the row of its fragment's root.
+pub fn leaf_rows(parent: &[u8], n: usize, inner: NodeSet, low: &mut [u64], high: &mut [u64])
+    requires { ⌜ Parents n (now parent) × InnerSet n (now parent) inner × Blank (now low) (now high) ⌝ }
+    ensures { λ _. ⌜ LeafRows n (now (parent .entry)) (now (low .exit)) (now (high .exit)) ⌝ }
+{
+    for v in 0..n {
+        let leaf = NodeSet::only(v).difference(inner);
+        put(low, high, root_of(parent, n, v), leaf);
+    }
+}
+
+// f, put into the row of each member of the set.
+fn put_all(set: NodeSet, f: usize, low: &mut [u64], high: &mut [u64])
+    requires { ⌜ Long (now low) (now high) × (f < 128) ⌝ }
+    ensures { λ _. ⌜ PutAll (inRow (now (low .entry)) (now (high .entry))) set f (now (low .exit)) (now (high .exit)) ⌝ }
+{
+    let only = NodeSet::only(f);
+    let mut left = set;
+    while !left.is_empty() {
+        let h = left.lowest();
+        put(low, high, h, only);
+        left = left.without(h);
+    }
+}
+
+// In the row of each root the roots below it and above it.
+pub fn near_rows(
+    below_low: &[u64],
+    below_high: &[u64],
+    roots: NodeSet,
+    low: &mut [u64],
+    high: &mut [u64],
+)
+    requires { ⌜ Long (now «below_low») (now «below_high») × Blank (now low) (now high) ⌝ }
+    ensures { λ _. ⌜ NearRows (inRow (now («below_low» .entry)) (now («below_high» .entry))) (mem roots) (now (low .exit)) (now (high .exit)) ⌝ }
+{
+    let mut left = roots;
+    while !left.is_empty() {
+        let f = left.lowest();
+        let below = row(below_low, below_high, f).intersection(roots);
+        put(low, high, f, below);
+        put_all(below, f, low, high);
+        left = left.without(f);
+    }
+}

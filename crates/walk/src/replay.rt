@@ -1,0 +1,66 @@
+// The rows where decisions have led, from the sheet's rows.
+use descent::add_edge;
+ghost use mathlib.Core.Path.{_≡_};
+ghost use Prim.Native.Nat.{_≤_, _<_};
+ghost use Rattle.graph.specs.Graph.{Graph, Descent, own};
+ghost use Rattle.graph.specs.Order.{adding};
+ghost use Rattle.rows.specs.Rows.{Rows};
+ghost use Rattle.descent.specs.Closing.{Long};
+ghost use Rattle.walking.specs.Walk.{graphAt, Valid};
+ghost use Rattle.walk.specs.Decisions.{decisions, Within};
+ghost use Rattle.walk.specs.Given.{Owners, Owned};
+
+pub fn copy_rows(from_low: &[u64], from_high: &[u64], low: &mut [u64], high: &mut [u64])
+    requires { ⌜ Long (now «from_low») (now «from_high») × Long (now low) (now high) ⌝ }
+    ensures { λ _. ⌜ (now (low .exit) ≡ now («from_low» .entry)) × (now (high .exit) ≡ now («from_high» .entry)) ⌝ }
+{
+    for u in 0..128 {
+        low[u] = from_low[u];
+        high[u] = from_high[u];
+    }
+}
+
+// The edge from a leaf to the root of another's fragment.
+pub fn add_half(
+    owner: &[u8],
+    n: usize,
+    low: &mut [u64],
+    high: &mut [u64],
+    upper: usize,
+    lower: usize,
+)
+    requires { ⌜ Owners n (now owner) × Long (now low) (now high) × (n ≤ 128) × (upper < n) × (lower < n) ⌝ }
+    ensures { λ _. ⌜ Long (now (low .exit)) (now (high .exit)) ⌝ }
+    ensures { λ _. ⌜
+        ((g : Graph) → Owned g n (now (owner .entry)) → Rows (Descent g) (now (low .entry)) (now (high .entry)) →
+        Rows (Descent (adding g upper (own g lower))) (now (low .exit)) (now (high .exit)))
+        ⌝ }
+{
+    add_edge(low, high, n, upper, owner[lower] as usize);
+}
+
+pub fn rebuild(
+    owner: &[u8],
+    n: usize,
+    base_low: &[u64],
+    base_high: &[u64],
+    uppers: &[u8],
+    lowers: &[u8],
+    depth: usize,
+    low: &mut [u64],
+    high: &mut [u64],
+)
+    requires { ⌜ Owners n (now owner) × (n ≤ 128) × Long (now «base_low») (now «base_high») × Long (now low) (now high) ⌝ }
+    requires { ⌜ Within n depth (now uppers) (now lowers) ⌝ }
+    ensures { λ _. ⌜ Long (now (low .exit)) (now (high .exit)) ⌝ }
+    ensures { λ _. ⌜
+        ((g : Graph) → Owned g n (now (owner .entry)) → Rows (Descent g) (now («base_low» .entry)) (now («base_high» .entry)) →
+        Valid g (decisions (now (uppers .entry)) (now (lowers .entry)) depth) →
+        Rows (Descent (graphAt g (decisions (now (uppers .entry)) (now (lowers .entry)) depth))) (now (low .exit)) (now (high .exit)))
+        ⌝ }
+{
+    copy_rows(base_low, base_high, low, high);
+    for i in 0..depth {
+        add_half(owner, n, low, high, uppers[i] as usize, lowers[i] as usize);
+    }
+}

@@ -1,0 +1,195 @@
+// From reading to reading. The decisions are `depth` entries of two tables: the leaf that the edge added starts from, and
+// the leaf whose root it goes to. It is the first half of its choice where the one that it starts from is the lower.
+use crate::halves::other_half;
+use crate::halves::take_half;
+use crate::replay::copy_rows;
+use fork::choose::Fork;
+use fork::choose::choose;
+use nodeset::NodeSet;
+ghost use Prim.Native.Nat.{ℕ, _+_};
+ghost use Rattle.graph.specs.Graph.{Graph, Descent};
+ghost use Rattle.rows.specs.Rows.{Rows};
+ghost use Rattle.sheet.specs.Judge.{Parents};
+ghost use Rattle.descent.specs.Closing.{Long};
+ghost use Rattle.fork.specs.Given.{Ends};
+ghost use Rattle.walking.specs.Walk.{Leaving};
+ghost use Rattle.walk.specs.Decisions.{decisions, Within, Room};
+ghost use Rattle.walk.specs.Given.{Owners, Fits, Sheet};
+ghost use Rattle.walk.specs.States.{Enters, Stands, Arriving, Standing};
+ghost use Rattle.walk.specs.Moves.{Left, Moves};
+
+pub enum Moved {
+    To(usize),
+    End,
+}
+
+// Down to the next reading: the depth there.
+fn enter(
+    parent: &[u8],
+    owner: &[u8],
+    n: usize,
+    leaves: NodeSet,
+    roots: NodeSet,
+    low: &mut [u64],
+    high: &mut [u64],
+    uppers: &mut [u8],
+    lowers: &mut [u8],
+    depth: usize,
+) -> usize
+    requires { ⌜ Arriving n (now parent) (now owner) leaves roots (now uppers) (now lowers) (now low) (now high) depth ⌝ }
+    requires { ⌜ Room n (now uppers) (now lowers) ⌝ }
+    ensures { λ r. ⌜
+        ((g : Graph) (k : ℕ) → Fits g n (now (parent .entry)) (now (owner .entry)) → Ends g n leaves roots →
+        Enters g (now (uppers .entry)) (now (lowers .entry)) (now (low .entry)) (now (high .entry)) depth k →
+        Stands g (now (uppers .exit)) (now (lowers .exit)) (now (low .exit)) (now (high .exit)) r k)
+        ⌝ }
+{
+    let mut at = depth;
+    loop {
+        let Fork::At(v, a, b) = choose(low, high, n, leaves, roots) else {
+            return at;
+        };
+        take_half(parent, owner, n, low, high, uppers, lowers, at, a, b);
+        at += 1;
+    }
+}
+
+// Up to the last first half whose other half has a solved form, and into that.
+fn leave(
+    parent: &[u8],
+    owner: &[u8],
+    n: usize,
+    base_low: &[u64],
+    base_high: &[u64],
+    low: &mut [u64],
+    high: &mut [u64],
+    uppers: &mut [u8],
+    lowers: &mut [u8],
+    depth: usize,
+) -> Moved
+    requires { ⌜ Parents n (now parent) × Owners n (now owner) × Long (now «base_low») (now «base_high») × Long (now low) (now high) ⌝ }
+    requires { ⌜ Within n depth (now uppers) (now lowers) ⌝ }
+    ensures { λ r. ⌜
+        ((g : Graph) (k : ℕ) → Fits g n (now (parent .entry)) (now (owner .entry)) →
+        Rows (Descent g) (now («base_low» .entry)) (now («base_high» .entry)) →
+        Leaving g (decisions (now (uppers .entry)) (now (lowers .entry)) depth) k →
+        Left g (now (uppers .exit)) (now (lowers .exit)) (now (low .exit)) (now (high .exit)) k r)
+        ⌝ }
+{
+    let mut at = depth;
+    while 0 < at {
+        at -= 1;
+        let a = uppers[at];
+        let b = lowers[at];
+        if a < b {
+            if other_half(
+                parent,
+                owner,
+                n,
+                base_low,
+                base_high,
+                uppers,
+                lowers,
+                at,
+                low,
+                high,
+            ) {
+                uppers[at] = b;
+                lowers[at] = a;
+                return Moved::To(at + 1);
+            }
+        }
+    }
+    Moved::End
+}
+
+// The depth at the first reading.
+pub fn first(
+    parent: &[u8],
+    owner: &[u8],
+    n: usize,
+    leaves: NodeSet,
+    roots: NodeSet,
+    base_low: &[u64],
+    base_high: &[u64],
+    low: &mut [u64],
+    high: &mut [u64],
+    uppers: &mut [u8],
+    lowers: &mut [u8],
+) -> usize
+    requires { ⌜ Sheet n (now parent) (now owner) leaves roots (now «base_low») (now «base_high») ⌝ }
+    requires { ⌜ Long (now low) (now high) × Room n (now uppers) (now lowers) ⌝ }
+    ensures { λ r. ⌜
+        ((s : Sheet n (now (parent .entry)) (now (owner .entry)) leaves roots (now («base_low» .entry)) (now («base_high» .entry))) →
+        Stands (s .graph) (now (uppers .exit)) (now (lowers .exit)) (now (low .exit)) (now (high .exit)) r 0)
+        ⌝ }
+{
+    copy_rows(base_low, base_high, low, high);
+    enter(
+        parent,
+        owner,
+        n,
+        leaves,
+        roots,
+        low,
+        high,
+        uppers,
+        lowers,
+        0,
+    )
+}
+
+// The depth at the reading after this one.
+pub fn next(
+    parent: &[u8],
+    owner: &[u8],
+    n: usize,
+    leaves: NodeSet,
+    roots: NodeSet,
+    base_low: &[u64],
+    base_high: &[u64],
+    low: &mut [u64],
+    high: &mut [u64],
+    uppers: &mut [u8],
+    lowers: &mut [u8],
+    depth: usize,
+) -> Moved
+    requires { ⌜
+        Standing n (now parent) (now owner) leaves roots (now «base_low») (now «base_high»)
+        (now uppers) (now lowers) (now low) (now high) depth
+        ⌝ }
+    requires { ⌜ Room n (now uppers) (now lowers) ⌝ }
+    ensures { λ r. ⌜
+        ((s : Sheet n (now (parent .entry)) (now (owner .entry)) leaves roots (now («base_low» .entry)) (now («base_high» .entry)))
+        (k : ℕ) →
+        Stands (s .graph) (now (uppers .entry)) (now (lowers .entry)) (now (low .entry)) (now (high .entry)) depth k →
+        Moves (s .graph) (now (uppers .exit)) (now (lowers .exit)) (now (low .exit)) (now (high .exit)) (k + 1) r)
+        ⌝ }
+{
+    let Moved::To(turned) = leave(
+        parent,
+        owner,
+        n,
+        base_low,
+        base_high,
+        low,
+        high,
+        uppers,
+        lowers,
+        depth,
+    ) else {
+        return Moved::End;
+    };
+    Moved::To(enter(
+        parent,
+        owner,
+        n,
+        leaves,
+        roots,
+        low,
+        high,
+        uppers,
+        lowers,
+        turned,
+    ))
+}

@@ -1,0 +1,4 @@
+pub mod Thins
+pub mod Searches
+pub mod Spells
+pub mod Cycles

@@ -1,0 +1,3 @@
+pub mod Thinning
+pub mod Searching
+pub mod Spelling
