@@ -1,0 +1,5 @@
+pub mod Refusing
+pub mod Handing
+pub mod Demand3
+pub mod Determined
+pub mod Possible

@@ -1,0 +1,1 @@
+// The third demand as one theorem over the promises; no code.
