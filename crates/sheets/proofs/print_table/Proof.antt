@@ -1,0 +1,73 @@
+use mathlib.Core.Path.{sym}
+use native.Mathlib.Omega.{arith}
+use lib.Seq.{length-take-le}
+use borrow.Author.Needs.{needs}
+use Rattle.sheets.proofs.print_table.Statement.{statement}
+use Rattle.sheets.proofs.print_table.Tie as tie
+use Rattle.sheets.proofs.print_table.Reads as reads
+use Rattle.sheets.proofs.print_table.Lts as lts
+use Rattle.fragments.proofs.fragment_table.Reads as fragment-table-reads
+use Rattle.io.proofs.write_all.Reads as write-all-reads
+use Rattle.show.proofs.bytes_line.Reads as bytes-line-reads
+use Rattle.show.proofs.refusal_line.Reads as refusal-line-reads
+
+slice-aggregate-fragment-table : tie.Need-slice-aggregate-fragment-table
+slice-aggregate-fragment-table c = search needs
+
+fragment-table-requires : tie.Need-fragment-table-requires
+fragment-table-requires c κs = search needs
+
+enum-known-why : tie.Need-enum-known-why
+enum-known-why c = search needs
+
+refusal-line-requires : tie.Need-refusal-line-requires
+refusal-line-requires c κs = search needs
+
+enum-known-fragments : tie.Need-enum-known-fragments
+enum-known-fragments c = search needs
+
+slice-aggregate-write-all : tie.Need-slice-aggregate-write-all
+slice-aggregate-write-all c = search needs
+
+write-all-requires : tie.Need-write-all-requires
+write-all-requires c κs = search needs
+
+mul-out : tie.Need-mul-out
+mul-out c = search needs
+
+array-share-prefix-out : tie.Need-array-share-prefix-out
+array-share-prefix-out c = search needs
+
+slice-aggregate-bytes-line : tie.Need-slice-aggregate-bytes-line
+slice-aggregate-bytes-line c = sym (length-take-le _ _ (omega (arith, c .before .before .before .before .before .before .before .before .fragment-table .kept .1 .0)))
+
+bytes-line-requires : tie.Need-bytes-line-requires
+bytes-line-requires c κs = search needs
+
+returns : tie.Need-returns
+returns c = search needs
+
+returns-2 : tie.Need-returns-2
+returns-2 c = search needs
+
+returns-3 : tie.Need-returns-3
+returns-3 c = search needs
+
+pub print-table-spec : {M : Type 1} → statement M
+print-table-spec =
+    tie.close
+    (tie.spec
+    slice-aggregate-fragment-table
+    fragment-table-requires
+    enum-known-why
+    refusal-line-requires
+    enum-known-fragments
+    slice-aggregate-write-all
+    write-all-requires
+    mul-out
+    array-share-prefix-out
+    slice-aggregate-bytes-line
+    bytes-line-requires
+    returns
+    returns-2
+    returns-3)

@@ -1,0 +1,62 @@
+// Tidies each sheet of the input and tabulates its fragments. A sheet comes with its length, two bytes, before it.
+use fragments::Table;
+use fragments::fragment_table;
+use libc::STDOUT_FILENO;
+use show::bytes_line;
+use show::refusal_line;
+use tidy::Tidied;
+use tidy::tidy;
+ghost use Prim.Native.Nat.{_<_};
+
+fn print_table(sheet: &[u8]) {
+    let mut out = [0u8; 192];
+    match fragment_table(sheet, &mut out) {
+        Table::Refused(why) => refusal_line(why),
+        Table::Filled(fragments) => {
+            if fragments <= 64 {
+                io::write_all(STDOUT_FILENO, b"table ");
+                bytes_line(&out[..3 * fragments]);
+            }
+        }
+    }
+}
+
+fn print_sheet(sheet: &[u8]) {
+    let mut out = [0u8; 2048];
+    match tidy(sheet, &mut out) {
+        Tidied::Refused(why) => refusal_line(why),
+        Tidied::Length(length) => {
+            if length <= 2048 {
+                io::write_all(STDOUT_FILENO, b"tidy ");
+                bytes_line(&out[..length]);
+                print_table(sheet);
+            }
+        }
+    }
+}
+
+fn wide(byte: u8) -> usize
+    ensures { λ r. ⌜ r < 256 ⌝ }
+{
+    byte as usize
+}
+
+fn print_sheets(input: &[u8]) {
+    let mut at = 0;
+    while 2 <= input.len() - at {
+        let length = wide(input[at]) * 256 + wide(input[at + 1]);
+        let start = at + 2;
+        if input.len() - start < length {
+            return;
+        }
+        let end = start + length;
+        print_sheet(&input[start..end]);
+        at = end;
+    }
+}
+
+fn main() {
+    let mut input = io::large_buffer();
+    let got = io::read_full(0, &mut input);
+    print_sheets(&input[..got]);
+}
