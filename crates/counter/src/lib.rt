@@ -1,6 +1,26 @@
-// The calls that are open to callers: their answers.
+// The calls that are open to callers. Nothing is asked of what is lent: each call tests its own input.
+mod listed;
+mod tables;
+
+use cycles::check;
+use fragments::Table;
 use graph::Count;
 use graph::Refusal;
+use placings::Answers;
+use sheet::judge::Verdict;
+use sheet::read::read;
+use tables::checked_placing;
+use tables::configuration_of;
+use tables::count_of;
+use tables::drawing_of;
+use tables::reading_of;
+use tidy::Tidied;
+ghost use mathlib.Core.Path.{_≡_};
+ghost use Rattle.graph.specs.Sheet.{outcome};
+ghost use Rattle.tidy.specs.Tidy.{Tidies};
+ghost use Rattle.fragments.specs.Table.{Tabled};
+ghost use Rattle.counter.specs.Calls.{CountOf, ReadingOf, ConfigurationOf, DrawingOf};
+ghost use Rattle.counter.specs.Checks.{CycleOf, PlacingOf};
 
 // The answer to the count.
 pub enum Counted {
@@ -30,4 +50,139 @@ pub struct Next {
 pub enum Drawn {
     Length(usize),
     Refused(Refusal),
+}
+
+// The answer to the check of a cycle.
+pub enum CycleChecked {
+    Answer(bool),
+    Refused(Refusal),
+}
+
+// The answer to the check of a placing: solved form, configuration, reading.
+pub enum PlacingChecked {
+    Answers(Answers),
+    Refused(Refusal),
+}
+
+// How many readings the sheet has.
+pub fn count(sheet: &[u8]) -> Counted
+    ensures { λ r. ⌜ CountOf (outcome (now (sheet .entry))) r ⌝ }
+{
+    let answer = read(sheet);
+    let verdict = answer.verdict;
+    let graph = answer.graph;
+    let parent = graph.parent;
+    let low = graph.low;
+    let high = graph.high;
+    match verdict {
+        Verdict::Refused(why) => Counted::Refused(why),
+        Verdict::Accepted => count_of(&parent, &low, &high, graph.n),
+    }
+}
+
+impl Place {
+    pub fn start() -> Place
+        ensures { λ r. ⌜ r .number ≡ 0 ⌝ }
+    {
+        Place { number: 0 }
+    }
+
+    // The reading after the place, in the first n bytes; or the cycle.
+    pub fn next(self, sheet: &[u8], out: &mut [u8]) -> Next
+        ensures { λ r. ⌜
+            ReadingOf (outcome (now (sheet .entry))) (self .number) (now (out .entry)) (r .answer) (r .place .number) (now (out .exit))
+            ⌝ }
+    {
+        let answer = read(sheet);
+        let verdict = answer.verdict;
+        let graph = answer.graph;
+        let parent = graph.parent;
+        let low = graph.low;
+        let high = graph.high;
+        match verdict {
+            Verdict::Refused(why) => Next {
+                answer: Placed::Refused(why),
+                place: self,
+            },
+            Verdict::Accepted => reading_of(&parent, &low, &high, graph.n, self, out),
+        }
+    }
+}
+
+// A configuration, in the first n bytes; or the cycle.
+pub fn configuration(sheet: &[u8], out: &mut [u8]) -> Placed
+    ensures { λ r. ⌜ ConfigurationOf (outcome (now (sheet .entry))) (now (out .entry)) r (now (out .exit)) ⌝ }
+{
+    let answer = read(sheet);
+    let verdict = answer.verdict;
+    let graph = answer.graph;
+    let parent = graph.parent;
+    let low = graph.low;
+    let high = graph.high;
+    match verdict {
+        Verdict::Refused(why) => Placed::Refused(why),
+        Verdict::Accepted => configuration_of(&parent, &low, &high, graph.n, out),
+    }
+}
+
+// The drawing of the reading with this number, from the first lent byte on.
+pub fn drawing(sheet: &[u8], number: usize, out: &mut [u8]) -> Drawn
+    ensures { λ r. ⌜ DrawingOf (outcome (now (sheet .entry))) number (now (out .entry)) r (now (out .exit)) ⌝ }
+{
+    let answer = read(sheet);
+    let verdict = answer.verdict;
+    let graph = answer.graph;
+    let parent = graph.parent;
+    let low = graph.low;
+    let high = graph.high;
+    match verdict {
+        Verdict::Refused(why) => Drawn::Refused(why),
+        Verdict::Accepted => drawing_of(&parent, &low, &high, graph.n, number, out),
+    }
+}
+
+// The tidy sheet, from the first lent byte on.
+pub fn tidy(sheet: &[u8], out: &mut [u8]) -> Tidied
+    ensures { λ r. ⌜ Tidies (outcome (now (sheet .entry))) r (now (out .entry)) (now (out .exit)) ⌝ }
+{
+    tidy::tidy(sheet, out)
+}
+
+// One record per fragment, three bytes each: root, lowest leaf, number of leaves.
+pub fn fragment_table(sheet: &[u8], out: &mut [u8]) -> Table
+    ensures { λ r. ⌜ Tabled (outcome (now (sheet .entry))) r (now (out .entry)) (now (out .exit)) ⌝ }
+{
+    fragments::fragment_table(sheet, out)
+}
+
+// Whether the bytes spell a simple hypernormal cycle of the sheet.
+pub fn check_cycle(sheet: &[u8], cycle: &[u8]) -> CycleChecked
+    ensures { λ r. ⌜ CycleOf (outcome (now (sheet .entry))) (now (cycle .entry)) r ⌝ }
+{
+    let answer = read(sheet);
+    let verdict = answer.verdict;
+    let graph = answer.graph;
+    let parent = graph.parent;
+    let low = graph.low;
+    let high = graph.high;
+    match verdict {
+        Verdict::Refused(why) => CycleChecked::Refused(why),
+        Verdict::Accepted => CycleChecked::Answer(check(&parent, &low, &high, graph.n, cycle)),
+    }
+}
+
+// Whether the first n bytes are a solved form, a configuration, a reading of the sheet.
+pub fn check_placing(sheet: &[u8], placing: &[u8]) -> PlacingChecked
+    ensures { λ r. ⌜ PlacingOf (outcome (now (sheet .entry))) (now (placing .entry)) r ⌝ }
+{
+    let answer = read(sheet);
+    let verdict = answer.verdict;
+    let graph = answer.graph;
+    let parent = graph.parent;
+    let low = graph.low;
+    let high = graph.high;
+    match verdict {
+        Verdict::Refused(why) => PlacingChecked::Refused(why),
+        Verdict::Accepted => checked_placing(&parent, &low, &high, graph.n, placing),
+    }
 }

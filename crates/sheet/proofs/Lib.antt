@@ -1,5 +1,5 @@
 pub mod Steps
 pub mod Turns
-pub mod Walks
+pub mod Runs
 pub mod Judges
 pub mod Whole

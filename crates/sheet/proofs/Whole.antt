@@ -18,11 +18,11 @@ use Rattle.layout.proofs.Edges.{among-none, entered-of-among, parent-unentered,
 use Rattle.sheet.proofs.Turns.{parent-tells}
 use Rattle.sheet.proofs.Judges.{graphOf}
 use Rattle.sheet.specs.Turn.{Holds}
-use Rattle.sheet.specs.Walk.{Walked}
+use Rattle.sheet.specs.Run.{Walked}
 use Rattle.sheet.specs.Judge.{Parents, Judged}
 use Rattle.sheet.specs.Read.{headerOf, Blank, Decodes, Spelt, Decoding, Reads, Value}
-use Rattle.sheet.specs.declared.walk.Walk.{Walk}
-use Rattle.sheet.specs.declared.walk.Walk.the-variants.{Ended, Refused as WalkRefused}
+use Rattle.sheet.specs.declared.run.Walk.{Walk}
+use Rattle.sheet.specs.declared.run.Walk.the-variants.{Ended, Refused as WalkRefused}
 use Rattle.sheet.specs.declared.judge.Verdict.{Verdict}
 use Rattle.sheet.specs.declared.judge.Verdict.the-variants.{Accepted, Refused as VerdictRefused}
 use Rattle.sheet.specs.declared.read.Header.{Header}

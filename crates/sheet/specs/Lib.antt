@@ -1,5 +1,5 @@
 pub mod Step
 pub mod Turn
-pub mod Walk
+pub mod Run
 pub mod Judge
 pub mod Read

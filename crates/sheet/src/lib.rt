@@ -1,9 +1,9 @@
-// Bytes to a graph and back: decoding, refusals 1 to 8, tidying, the fragment table.
+// Bytes to a graph: decoding, refusals 1 to 8.
 pub mod command;
 pub mod judge;
 pub mod read;
+mod run;
 mod turn;
-mod walk;
 
 // What stands for the parent of a root.
 pub const NONE: u8 = 255;

@@ -2,8 +2,8 @@
 use crate::NONE;
 use crate::judge::Verdict;
 use crate::judge::judge;
-use crate::walk::Walk;
-use crate::walk::commands;
+use crate::run::Walk;
+use crate::run::commands;
 use graph::Refusal;
 ghost use mathlib.Core.Path.{_≡_};
 ghost use mathlib.Core.List.{[]};

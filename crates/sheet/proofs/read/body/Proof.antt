@@ -7,7 +7,7 @@ use Rattle.sheet.proofs.read.body.Tie as tie
 use Rattle.sheet.proofs.read.body.Reads as reads
 use Rattle.sheet.proofs.read.body.Lts as lts
 use Rattle.sheet.proofs.judge.judge.Reads as judge-reads
-use Rattle.sheet.proofs.walk.commands.Reads as commands-reads
+use Rattle.sheet.proofs.run.commands.Reads as commands-reads
 
 commands-requires : tie.Need-commands-requires
 commands-requires c κs = search needs

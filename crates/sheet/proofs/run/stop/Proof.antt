@@ -1,8 +1,8 @@
 use borrow.Author.Needs.{needs}
-use Rattle.sheet.proofs.walk.stop.Statement.{statement}
-use Rattle.sheet.proofs.walk.stop.Tie as tie
-use Rattle.sheet.proofs.walk.stop.Reads as reads
-use Rattle.sheet.proofs.walk.stop.Lts as lts
+use Rattle.sheet.proofs.run.stop.Statement.{statement}
+use Rattle.sheet.proofs.run.stop.Tie as tie
+use Rattle.sheet.proofs.run.stop.Reads as reads
+use Rattle.sheet.proofs.run.stop.Lts as lts
 
 enum-known-turn : tie.Need-enum-known-turn
 enum-known-turn c = search needs

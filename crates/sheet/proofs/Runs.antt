@@ -11,10 +11,10 @@ use Rattle.graph.specs.Graph.{Edge}
 use Rattle.graph.specs.Sheet.{commands}
 use Rattle.sheet.proofs.turn.Turn.{the-type}
 use Rattle.sheet.specs.Turn.{Holds, Turned, Advanced}
-use Rattle.sheet.specs.Walk.{Walked, Walking, stopOf}
+use Rattle.sheet.specs.Run.{Walked, Walking, stopOf}
 use Rattle.sheet.specs.declared.turn.Turn.{Turn}
 use Rattle.sheet.specs.declared.turn.Turn.the-variants.{Next, Ended, Refused}
-use Rattle.sheet.specs.declared.walk.Walk.{Walk}
+use Rattle.sheet.specs.declared.run.Walk.{Walk}
 
 pub goes-on : {x : Turn} {k : ℕ} (at long : ℕ) → x ≡ Next k → Advanced x at long → at + 3 ≤ long
 goes-on at long e a = rw e at a

@@ -5,14 +5,14 @@ use native.Mathlib.Omega.{arith}
 use lib.ListN.{length}
 use denote.Ref.{now}
 use borrow.Author.Needs.{needs}
-use Rattle.sheet.proofs.Walks.{goes-on, walking-on, walked}
-use Rattle.sheet.specs.Walk.{Walking}
-use Rattle.sheet.proofs.walk.commands.Statement.{statement}
-use Rattle.sheet.proofs.walk.commands.Tie as tie
-use Rattle.sheet.proofs.walk.commands.Reads as reads
-use Rattle.sheet.proofs.walk.commands.Lts as lts
+use Rattle.sheet.proofs.Runs.{goes-on, walking-on, walked}
+use Rattle.sheet.specs.Run.{Walking}
+use Rattle.sheet.proofs.run.commands.Statement.{statement}
+use Rattle.sheet.proofs.run.commands.Tie as tie
+use Rattle.sheet.proofs.run.commands.Reads as reads
+use Rattle.sheet.proofs.run.commands.Lts as lts
 use Rattle.sheet.proofs.turn.take.Reads as take-reads
-use Rattle.sheet.proofs.walk.stop.Reads as stop-reads
+use Rattle.sheet.proofs.run.stop.Reads as stop-reads
 
 abbrev Inv-loop : tie.InvT-loop
 Inv-loop sheet n parent₀ low₀ high₀ at₀ edges₀ parent low high at edges = Walking n sheet parent low high at edges

@@ -7,7 +7,7 @@ ghost use mathlib.Core.List.{[]};
 ghost use Prim.Native.Nat.{_≤_};
 ghost use lib.ListN.{length, drop};
 ghost use Rattle.sheet.specs.Turn.{Holds};
-ghost use Rattle.sheet.specs.Walk.{Walked, stopOf};
+ghost use Rattle.sheet.specs.Run.{Walked, stopOf};
 
 pub enum Walk {
     // The number of dominance edges.

@@ -8,8 +8,8 @@ use Rattle.graph.specs.Sheet.{refused, whole, commands}
 use Rattle.sheet.specs.Turn.{Holds}
 use Rattle.sheet.specs.declared.turn.Turn.{Turn}
 use Rattle.sheet.specs.declared.turn.Turn.the-variants.{Next, Ended as TurnEnded, Refused as TurnRefused}
-use Rattle.sheet.specs.declared.walk.Walk.{Walk}
-use Rattle.sheet.specs.declared.walk.Walk.the-variants.{Ended, Refused}
+use Rattle.sheet.specs.declared.run.Walk.{Walk}
+use Rattle.sheet.specs.declared.run.Walk.the-variants.{Ended, Refused}
 
 -- the answer where no command follows
 abbrev pub stopOf : Turn → ℕ → Walk

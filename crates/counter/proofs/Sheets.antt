@@ -1,0 +1,19 @@
+-- An accepted sheet's value is the tables that the calls work on.
+use mathlib.Core.Path.{_≡_}
+use mathlib.Core.List.{List}
+use Prim.Native.Nat.{ℕ}
+use Rattle.graph.specs.Sheet.{outcome, accepted}
+use Rattle.sheet.specs.Read.{Reads}
+use Rattle.sheet.specs.declared.read.Answer.{Answer}
+use Rattle.sheet.specs.declared.judge.Verdict.the-variants.{Accepted}
+use Rattle.rows.proofs.Answers.{answered-accepted}
+use Rattle.counter.specs.Given.{Given}
+
+pub record Sheet (bs : List ℕ) (r : Answer) : Type 0 where
+  pub tables : Given (r .graph .n) (r .graph .parent) (r .graph .low) (r .graph .high)
+  pub is : outcome bs ≡ accepted (tables .graph)
+
+pub sheet-of : (bs : List ℕ) (r : Answer) → Reads (outcome bs) r → r .verdict ≡ Accepted → Sheet bs r
+sheet-of bs r d e =
+    let a = answered-accepted bs r d e in
+    record { tables = record { graph = a .0; edges = r .graph .edges; tables = a .2 }; is = a .1 }

@@ -1,0 +1,56 @@
+-- The sheet's refusal, or the answer of its tables.
+use mathlib.Core.Path.{refl}
+use denote.Ref.{now}
+use Rattle.rows.proofs.Answers.{answered-refused}
+use Rattle.counter.proofs.Sheets.{sheet-of}
+use borrow.Author.Needs.{needs}
+use Rattle.counter.proofs.check_placing.Statement.{statement}
+use Rattle.counter.proofs.check_placing.Tie as tie
+
+read-requires : tie.Need-read-requires
+read-requires c κs = search needs
+
+enum-known-verdict : tie.Need-enum-known-verdict
+enum-known-verdict c = search needs
+
+enum-told : tie.Need-enum-told
+enum-told c = search needs
+
+slice-aggregate-checked-placing : tie.Need-slice-aggregate-checked-placing
+slice-aggregate-checked-placing c = search needs
+
+slice-aggregate-checked-placing-2 : tie.Need-slice-aggregate-checked-placing-2
+slice-aggregate-checked-placing-2 c = search needs
+
+slice-aggregate-checked-placing-3 : tie.Need-slice-aggregate-checked-placing-3
+slice-aggregate-checked-placing-3 c = search needs
+
+checked-placing-requires : tie.Need-checked-placing-requires
+checked-placing-requires c κs =
+    let r = c .before .before .before .before .before .before .before .before .before .read in
+    sheet-of (now (c .before .before .before .before .before .before .before .before .before .before .before .before .args .sheet)) (r .result) (r .ensures) (c .before .before .before .enum-told .given .1) .tables
+
+returns : tie.Need-returns
+returns c =
+    let r = c .before .before .before .before .before .before .before .read in
+    rw (answered-refused (now (c .before .before .before .before .before .before .before .before .before .before .args .sheet)) (r .result) _ (r .ensures) (c .before .verdict .given .1)) refl
+
+returns-2 : tie.Need-returns-2
+returns-2 c =
+    let r = c .before .before .before .before .before .before .before .before .before .before .read in
+    let x = sheet-of (now (c .before .before .before .before .before .before .before .before .before .before .before .before .before .args .sheet)) (r .result) (r .ensures) (c .before .before .before .before .enum-told .given .1) in
+    rw (x .is) (c .checked-placing .ensures (x .tables))
+
+pub check-placing-spec : {M : Type 1} → statement M
+check-placing-spec =
+    tie.close
+    (tie.spec
+    read-requires
+    enum-known-verdict
+    enum-told
+    slice-aggregate-checked-placing
+    slice-aggregate-checked-placing-2
+    slice-aggregate-checked-placing-3
+    checked-placing-requires
+    returns
+    returns-2)

@@ -1,0 +1,19 @@
+-- 10, or the three answers.
+use Rattle.counter.proofs.Answering.{parents-table, heads-long, small-placing, placing-answered}
+use Rattle.counter.proofs.tables.checked_placing.Statement.{statement}
+use Rattle.counter.proofs.tables.checked_placing.Tie as tie
+
+returns : tie.Need-returns
+returns c =
+    λ s. small-placing s _ (c .if1 .taken)
+
+check-requires : tie.Need-check-requires
+check-requires c κs =
+    let s = c .before .before .before .before .before .pre in (parents-table s, heads-long s, c .if1 .left)
+
+returns-2 : tie.Need-returns-2
+returns-2 c =
+    λ s. placing-answered s _ _ (c .before .if1 .left) (c .check .ensures)
+
+pub checked-placing-spec : {M : Type 1} → statement M
+checked-placing-spec = tie.close (tie.spec returns check-requires returns-2)

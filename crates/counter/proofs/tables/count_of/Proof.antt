@@ -1,0 +1,56 @@
+-- 9, or the count.
+use mathlib.Core.Path.{refl}
+use borrow.Author.Tests.{not-true, not-false}
+use Rattle.counter.proofs.Answering.{parents-table, heads-long, no-count, a-count}
+use borrow.Author.Needs.{needs}
+use Rattle.counter.proofs.tables.count_of.Statement.{statement}
+use Rattle.counter.proofs.tables.count_of.Tie as tie
+
+slice-aggregate-begin : tie.Need-slice-aggregate-begin
+slice-aggregate-begin c = search needs
+
+slice-aggregate-begin-2 : tie.Need-slice-aggregate-begin-2
+slice-aggregate-begin-2 c = search needs
+
+slice-aggregate-begin-3 : tie.Need-slice-aggregate-begin-3
+slice-aggregate-begin-3 c = search needs
+
+begin-requires : tie.Need-begin-requires
+begin-requires c κs =
+    let s = c .before .before .before .before .before .before .pre in (parents-table s, heads-long s, parents-table s .few, (refl, refl))
+
+returns : tie.Need-returns
+returns c =
+    λ s. no-count s (c .before .before .before .before .before .begin .ensures (s .graph) (s .edges) (s .tables) .unsolved (not-true _ (c .if1 .taken)))
+
+slice-aggregate-how-many : tie.Need-slice-aggregate-how-many
+slice-aggregate-how-many c = search needs
+
+slice-aggregate-how-many-2 : tie.Need-slice-aggregate-how-many-2
+slice-aggregate-how-many-2 c = search needs
+
+slice-aggregate-how-many-3 : tie.Need-slice-aggregate-how-many-3
+slice-aggregate-how-many-3 c = search needs
+
+how-many-requires : tie.Need-how-many-requires
+how-many-requires c κs =
+    c .before .before .before .before .before .before .before .before .begin .ensures (c .before .before .before .before .before .before .before .before .before .before .before .before .before .before .before .pre .graph) (c .before .before .before .before .before .before .before .before .before .before .before .before .before .before .before .pre .edges) (c .before .before .before .before .before .before .before .before .before .before .before .before .before .before .before .pre .tables) .solved (not-false _ (c .before .before .before .if1 .left)) .sheet
+
+returns-2 : tie.Need-returns-2
+returns-2 c =
+    λ s. a-count s (c .before .before .before .before .before .before .before .before .before .begin .ensures (s .graph) (s .edges) (s .tables) .solved (not-false _ (c .before .before .before .before .if1 .left))) _ (c .how-many .ensures)
+
+pub count-of-spec : {M : Type 1} → statement M
+count-of-spec =
+    tie.close
+    (tie.spec
+    slice-aggregate-begin
+    slice-aggregate-begin-2
+    slice-aggregate-begin-3
+    begin-requires
+    returns
+    slice-aggregate-how-many
+    slice-aggregate-how-many-2
+    slice-aggregate-how-many-3
+    how-many-requires
+    returns-2)

@@ -1,0 +1,40 @@
+-- What the two checks answer. They are lent nothing to write into.
+use Prim.Native.Nat.{ℕ, _≤_, _<_}
+use mathlib.Core.Path.{_≡_}
+use mathlib.Core.List.{List}
+use lib.ListN.{length, take}
+use Rattle.graph.specs.Graph.{Graph}
+use Rattle.graph.specs.Sheet.{Outcome, refused, accepted}
+use Rattle.graph.specs.Cycle.{hypernormalCycle}
+use Rattle.graph.specs.Refusal.{number}
+use Rattle.graph.specs.declared.Refusal.the-variants.{SmallBuffer}
+use Rattle.placings.specs.Answered.{Answered}
+use Rattle.placings.specs.declared.Answers.{Answers}
+use Rattle.counter.specs.declared.CycleChecked.{CycleChecked}
+use Rattle.counter.specs.declared.CycleChecked.the-variants.{Answer, Refused as CycleRefused}
+use Rattle.counter.specs.declared.PlacingChecked.{PlacingChecked}
+use Rattle.counter.specs.declared.PlacingChecked.the-variants.{Answers as Answered-so, Refused}
+
+-- the number of an answer's refusal, and 0 where it is none
+abbrev pub cycleNumber : CycleChecked → ℕ
+cycleNumber (Answer b) = 0
+cycleNumber (CycleRefused why) = number why
+
+abbrev pub placingNumber : PlacingChecked → ℕ
+placingNumber (Answered-so a) = 0
+placingNumber (Refused why) = number why
+
+-- "The check of a cycle says yes exactly when the bytes spell a simple hypernormal cycle of the sheet"; "no least length for
+-- a cycle to be checked"
+abbrev pub CycleOf : Outcome → List ℕ → CycleChecked → Type 0
+CycleOf (refused why) cycle r = r ≡ CycleRefused why
+CycleOf (accepted g) cycle r = r ≡ Answer (hypernormalCycle g cycle)
+
+-- "The check of a placing reads the first n bytes and gives three yes-or-no answers"
+pub data PlacingCall (g : Graph) (placing : List ℕ) : PlacingChecked → Type 0 where
+  small : length placing < g .nodes → PlacingCall g placing (Refused SmallBuffer)
+  answered : (a : Answers) → g .nodes ≤ length placing → Answered g (take (g .nodes) placing) a → PlacingCall g placing (Answered-so a)
+
+abbrev pub PlacingOf : Outcome → List ℕ → PlacingChecked → Type 0
+PlacingOf (refused why) placing r = r ≡ Refused why
+PlacingOf (accepted g) placing r = PlacingCall g placing r

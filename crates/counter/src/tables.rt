@@ -1,0 +1,207 @@
+// The calls on the tables of a well-formed sheet: of each node its parent, of each leaf the roots that its dominance edges
+// go to. The refusals come in document 01's order: 10, 9, 11.
+use crate::Counted;
+use crate::Drawn;
+use crate::Next;
+use crate::Place;
+use crate::Placed;
+use crate::PlacingChecked;
+use crate::listed::LAST;
+use crate::listed::find;
+use crate::listed::how_many;
+use configure::configure;
+use draw::draw;
+use graph::Refusal;
+use start::begin;
+use witness::witness;
+ghost use Rattle.counter.specs.Calls.{Counts, ReadingCall, ConfigurationCall, DrawingCall};
+ghost use Rattle.counter.specs.Checks.{PlacingCall};
+ghost use Rattle.counter.specs.Given.{Given};
+
+// The bytes that a drawing is lent at least.
+const DRAWING: usize = 1024;
+
+pub fn count_of(parent: &[u8], heads_low: &[u64], heads_high: &[u64], n: usize) -> Counted
+    requires { ⌜ Given n (now parent) (now «heads_low») (now «heads_high») ⌝ }
+    ensures { λ r. ⌜
+        ((s : Given n (now (parent .entry)) (now («heads_low» .entry)) (now («heads_high» .entry))) →
+        Counts (s .graph) r)
+        ⌝ }
+{
+    let mut owner = [0u8; 128];
+    let mut low = [0u64; 128];
+    let mut high = [0u64; 128];
+    let begun = begin(
+        parent,
+        heads_low,
+        heads_high,
+        n,
+        &mut owner,
+        &mut low,
+        &mut high,
+    );
+    if !begun.solvable {
+        return Counted::Refused(Refusal::NoReading);
+    }
+    Counted::Readings(how_many(parent, &owner, n, begun.leaves, begun.roots, &low, &high))
+}
+
+pub fn reading_of(
+    parent: &[u8],
+    heads_low: &[u64],
+    heads_high: &[u64],
+    n: usize,
+    place: Place,
+    out: &mut [u8],
+) -> Next
+    requires { ⌜ Given n (now parent) (now «heads_low») (now «heads_high») ⌝ }
+    ensures { λ r. ⌜
+        ((s : Given n (now (parent .entry)) (now («heads_low» .entry)) (now («heads_high» .entry))) →
+        ReadingCall (s .graph) (place .number) (now (out .entry)) (r .answer) (r .place .number) (now (out .exit)))
+        ⌝ }
+{
+    if out.len() < 2 * n {
+        return Next {
+            answer: Placed::Refused(Refusal::SmallBuffer),
+            place,
+        };
+    }
+    let mut owner = [0u8; 128];
+    let mut low = [0u64; 128];
+    let mut high = [0u64; 128];
+    let begun = begin(
+        parent,
+        heads_low,
+        heads_high,
+        n,
+        &mut owner,
+        &mut low,
+        &mut high,
+    );
+    if !begun.solvable {
+        let pairs = witness(parent, heads_low, heads_high, n, out);
+        return Next {
+            answer: Placed::NoReading(pairs),
+            place,
+        };
+    }
+    let passed = place.number;
+    if passed < LAST {
+        let wanted = passed + 1;
+        if find(
+            parent,
+            &owner,
+            n,
+            begun.leaves,
+            begun.roots,
+            &low,
+            &high,
+            wanted,
+            out,
+        ) {
+            return Next {
+                answer: Placed::Done,
+                place: Place { number: wanted },
+            };
+        }
+    }
+    Next {
+        answer: Placed::Refused(Refusal::NoSuchReading),
+        place,
+    }
+}
+
+pub fn configuration_of(
+    parent: &[u8],
+    heads_low: &[u64],
+    heads_high: &[u64],
+    n: usize,
+    out: &mut [u8],
+) -> Placed
+    requires { ⌜ Given n (now parent) (now «heads_low») (now «heads_high») ⌝ }
+    ensures { λ r. ⌜
+        ((s : Given n (now (parent .entry)) (now («heads_low» .entry)) (now («heads_high» .entry))) →
+        ConfigurationCall (s .graph) (now (out .entry)) r (now (out .exit)))
+        ⌝ }
+{
+    let next = reading_of(parent, heads_low, heads_high, n, Place { number: 0 }, out);
+    let answer = next.answer;
+    if let Placed::Done = answer {
+        configure(parent, n, out);
+    }
+    answer
+}
+
+pub fn drawing_of(
+    parent: &[u8],
+    heads_low: &[u64],
+    heads_high: &[u64],
+    n: usize,
+    number: usize,
+    out: &mut [u8],
+) -> Drawn
+    requires { ⌜ Given n (now parent) (now «heads_low») (now «heads_high») ⌝ }
+    ensures { λ r. ⌜
+        ((s : Given n (now (parent .entry)) (now («heads_low» .entry)) (now («heads_high» .entry))) →
+        DrawingCall (s .graph) number (now (out .entry)) r (now (out .exit)))
+        ⌝ }
+{
+    if out.len() < DRAWING {
+        return Drawn::Refused(Refusal::SmallBuffer);
+    }
+    let mut owner = [0u8; 128];
+    let mut low = [0u64; 128];
+    let mut high = [0u64; 128];
+    let begun = begin(
+        parent,
+        heads_low,
+        heads_high,
+        n,
+        &mut owner,
+        &mut low,
+        &mut high,
+    );
+    if !begun.solvable {
+        return Drawn::Refused(Refusal::NoReading);
+    }
+    if number == 0 {
+        return Drawn::Refused(Refusal::NoSuchReading);
+    }
+    if LAST < number {
+        return Drawn::Refused(Refusal::NoSuchReading);
+    }
+    let mut placing = [0u8; 128];
+    if find(
+        parent,
+        &owner,
+        n,
+        begun.leaves,
+        begun.roots,
+        &low,
+        &high,
+        number,
+        &mut placing,
+    ) {
+        return Drawn::Length(draw(parent, n, &placing, out));
+    }
+    Drawn::Refused(Refusal::NoSuchReading)
+}
+
+pub fn checked_placing(
+    parent: &[u8],
+    heads_low: &[u64],
+    heads_high: &[u64],
+    n: usize,
+    placing: &[u8],
+) -> PlacingChecked
+    requires { ⌜ Given n (now parent) (now «heads_low») (now «heads_high») ⌝ }
+    ensures { λ r. ⌜
+        ((s : Given n (now (parent .entry)) (now («heads_low» .entry)) (now («heads_high» .entry))) →
+        PlacingCall (s .graph) (now (placing .entry)) r)
+        ⌝ }
+{
+    if placing.len() < n {
+        return PlacingChecked::Refused(Refusal::SmallBuffer);
+    }
+    PlacingChecked::Answers(placings::check(parent, heads_low, heads_high, n, placing))
+}

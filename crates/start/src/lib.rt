@@ -1,0 +1,45 @@
+// What every walk needs of a sheet's graph: the rows of its descent relation, the root of each node, the leaves and the
+// roots; and whether there is anything to walk through.
+use descent::graph_rows;
+use fork::ends::leaf_nodes;
+use nodeset::NodeSet;
+use sheet::judge::root_nodes;
+use solvable::solvable;
+use walk::owners::owners;
+ghost use Prim.Native.Nat.{ℕ, _≤_};
+ghost use lib.ListN.{length};
+ghost use Rattle.graph.specs.Graph.{Graph};
+ghost use Rattle.sheet.specs.Judge.{Parents};
+ghost use Rattle.rows.specs.Rows.{Tables};
+ghost use Rattle.descent.specs.Closing.{Long};
+ghost use Rattle.start.specs.Started.{Started};
+
+pub struct Start {
+    pub solvable: bool,
+    pub leaves: NodeSet,
+    pub roots: NodeSet,
+}
+
+pub fn begin(
+    parent: &[u8],
+    heads_low: &[u64],
+    heads_high: &[u64],
+    n: usize,
+    owner: &mut [u8],
+    low: &mut [u64],
+    high: &mut [u64],
+) -> Start
+    requires { ⌜ Parents n (now parent) × Long (now «heads_low») (now «heads_high») × (n ≤ length (now owner)) × Long (now low) (now high) ⌝ }
+    ensures { λ r. ⌜
+        ((g : Graph) (edges : ℕ) → Tables g n (now (parent .entry)) (now («heads_low» .entry)) (now («heads_high» .entry)) edges →
+        Started g n (now (parent .entry)) (now (owner .exit)) (now (low .exit)) (now (high .exit)) r)
+        ⌝ }
+{
+    graph_rows(parent, heads_low, heads_high, n, low, high);
+    owners(parent, n, owner);
+    Start {
+        solvable: solvable(parent, n, low, high),
+        leaves: leaf_nodes(parent, n),
+        roots: root_nodes(parent, n),
+    }
+}
