@@ -31,6 +31,7 @@ use Rattle.draw.specs.Drawn.{Drawable}
 use Rattle.draw.specs.Drawn as text
 use Rattle.placings.specs.Answered.{Answered}
 use Rattle.placings.specs.declared.Answers.{Answers}
+use Rattle.numbered.specs.Numbered.{Finds}
 use Rattle.start.specs.Started.{SheetOf, Started}
 use Rattle.start.specs.declared.Start.{Start}
 use Rattle.counter.specs.Calls.{Unsolvable, reach, CycleWritten, Counts, ReadingCall, ConfigurationCall, DrawingCall}
@@ -38,7 +39,6 @@ use Rattle.counter.specs.Calls as calls
 use Rattle.counter.specs.Checks.{PlacingCall}
 use Rattle.counter.specs.Checks as checks
 use Rattle.counter.specs.Given.{Given}
-use Rattle.counter.specs.Numbered.{Finds}
 use Rattle.counter.specs.declared.Counted.the-variants.{Readings, Refused as CountRefused}
 use Rattle.counter.specs.declared.Placed.{Placed}
 use Rattle.counter.specs.declared.Placed.the-variants.{Done, NoReading, Refused}

@@ -1,5 +1,4 @@
 // The calls that are open to callers. Nothing is asked of what is lent: each call tests its own input.
-mod listed;
 mod tables;
 
 use cycles::check;

@@ -6,12 +6,12 @@ use crate::Next;
 use crate::Place;
 use crate::Placed;
 use crate::PlacingChecked;
-use crate::listed::LAST;
-use crate::listed::find;
-use crate::listed::how_many;
 use configure::configure;
 use draw::draw;
 use graph::Refusal;
+use numbered::LAST;
+use numbered::count;
+use numbered::find;
 use start::begin;
 use witness::witness;
 ghost use Rattle.counter.specs.Calls.{Counts, ReadingCall, ConfigurationCall, DrawingCall};
@@ -43,7 +43,7 @@ pub fn count_of(parent: &[u8], heads_low: &[u64], heads_high: &[u64], n: usize) 
     if !begun.solvable {
         return Counted::Refused(Refusal::NoReading);
     }
-    Counted::Readings(how_many(parent, &owner, n, begun.leaves, begun.roots, &low, &high))
+    Counted::Readings(count(parent, &owner, n, begun.leaves, begun.roots, &low, &high))
 }
 
 pub fn reading_of(

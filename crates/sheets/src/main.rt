@@ -1,21 +1,37 @@
 // Tidies each sheet of the input and tabulates its fragments. A sheet comes with its length, two bytes, before it.
 use fragments::Table;
 use fragments::fragment_table;
+use graph::Refusal;
 use libc::STDOUT_FILENO;
-use show::bytes_line;
-use show::refusal_line;
+use text::hex_line;
+use text::refused_line;
 use tidy::Tidied;
 use tidy::tidy;
-ghost use Prim.Native.Nat.{_<_};
+ghost use Prim.Native.Nat.{_≤_, _<_};
+ghost use lib.ListN.{length};
+
+fn print_refusal(why: Refusal) {
+    let mut out = [0u8; 11];
+    let end = refused_line(why, &mut out, 0);
+    io::write_all(STDOUT_FILENO, &out[..end]);
+}
+
+fn print_bytes(bytes: &[u8])
+    requires { ⌜ length (now bytes) ≤ 2048 ⌝ }
+{
+    let mut out = [0u8; 4097];
+    let end = hex_line(bytes, &mut out, 0);
+    io::write_all(STDOUT_FILENO, &out[..end]);
+}
 
 fn print_table(sheet: &[u8]) {
     let mut out = [0u8; 192];
     match fragment_table(sheet, &mut out) {
-        Table::Refused(why) => refusal_line(why),
+        Table::Refused(why) => print_refusal(why),
         Table::Filled(fragments) => {
             if fragments <= 64 {
                 io::write_all(STDOUT_FILENO, b"table ");
-                bytes_line(&out[..3 * fragments]);
+                print_bytes(&out[..3 * fragments]);
             }
         }
     }
@@ -24,11 +40,11 @@ fn print_table(sheet: &[u8]) {
 fn print_sheet(sheet: &[u8]) {
     let mut out = [0u8; 2048];
     match tidy(sheet, &mut out) {
-        Tidied::Refused(why) => refusal_line(why),
+        Tidied::Refused(why) => print_refusal(why),
         Tidied::Length(length) => {
             if length <= 2048 {
                 io::write_all(STDOUT_FILENO, b"tidy ");
-                bytes_line(&out[..length]);
+                print_bytes(&out[..length]);
                 print_table(sheet);
             }
         }

@@ -2,27 +2,20 @@
 use Prim.Native.Nat.{ℕ, _+_, _*_, _≤_, _<_}
 use mathlib.Core.Path.{_≡_, sym, ap, subst, _∙_}
 use mathlib.Core.List.{List, [], _∷_, _++_}
-use mathlib.Core.Bool.{true, false, cond}
+use mathlib.Core.Bool.{true, false}
 use native.Mathlib.Omega.{arith}
-use lib.Dec.{leb}
 use lib.ListN.{length, getD, set, take}
-use borrow.Author.Tests.{le-leb, lt-leb}
-use Rattle.finite.proofs.Laws.{by-bool}
-use Rattle.nodeset.specs.Set.{mem}
 use Rattle.nodeset.specs.declared.NodeSet.{NodeSet}
-use Rattle.graph.specs.Graph.{Graph, Descent, leaf}
-use Rattle.graph.specs.Order.{Choice, entry, limit, countAnswer}
-use Rattle.graph.specs.declared.Count.the-variants.{Exactly, More}
+use Rattle.graph.specs.Graph.{Graph, Descent}
+use Rattle.graph.specs.Order.{Choice, entry}
 use Rattle.graph.specs.Placing.{Solvable}
 use Rattle.paths.proofs.Shape.{Shaped}
 use Rattle.listing.proofs.Choosing.{Unforked}
 use Rattle.listing.proofs.Induction.{Unsolvable}
 use Rattle.listing.proofs.Readings.{listed}
 use Rattle.listing.proofs.Settled.{settled}
-use Rattle.sheet.specs.Judge.{Parents, RootSet}
 use Rattle.rows.specs.Rows.{Rows}
-use Rattle.fork.specs.Given.{TreeOf, Ends, Given}
-use Rattle.fork.proofs.Trees.{ends-of}
+use Rattle.fork.specs.Given.{Ends, Given}
 use Rattle.fork.specs.Chosen.{Bounded, Chosen}
 use Rattle.fork.specs.declared.choose.Fork.{Fork}
 use Rattle.fork.specs.declared.choose.Fork.the-variants.{None, At}
@@ -31,9 +24,8 @@ use Rattle.walking.proofs.Halves.{solvable-loopless}
 use Rattle.walking.proofs.Decisions.{graph-pushed}
 use Rattle.walking.proofs.States.{entering-outset, entering-room, entering-first, entering-second, entering-at, at-entry, leaving-turned, leaving-first, leaving-second, leaving-end}
 use Rattle.walk.specs.Decisions.{decisions}
-use Rattle.walk.specs.Given.{Fits, Filled, Sheet}
+use Rattle.walk.specs.Given.{Fits, Sheet}
 use Rattle.walk.specs.States.{Enters, Stands, Halved, Turned}
-use Rattle.walk.specs.Moves.{counted}
 use Rattle.walk.proofs.Tables.{decision-first, decision-second, decisions-none, decisions-more, decisions-length, decisions-pushed}
 use Rattle.walk.proofs.Fitting.{rows-outset, fits-at, ends-at}
 
@@ -158,36 +150,3 @@ pub left-all : {g : Graph} (uppers lowers : List ℕ) (depth : ℕ) {k : ℕ} �
 left-all {g} uppers lowers depth {k} h x =
     let none : depth ≡ 0 = omega arith in
     leaving-end (subst (λ (l : List Decision). Leaving g l k) (ap (decisions uppers lowers) none ∙ decisions-none uppers lowers) x)
-
--- the count
-
-pub counted-exact : (k all : ℕ) → k ≡ all → all < limit + 1 → all ≡ counted k
-unfolding counted
-counted-exact k all e h = rw (le-leb k limit (omega arith)) (sym e)
-
-pub counted-more : (k : ℕ) → limit < k → limit + 1 ≡ counted k
-unfolding counted
-counted-more k h = rw (lt-leb k limit h)
-
--- the answer to the question how many there are
-pub counted-answer : (k : ℕ) → countAnswer k ≡ cond (leb (counted k) limit) (Exactly (counted k)) More
-unfolding counted countAnswer
-counted-answer k =
-    by-bool (leb k limit)
-    (λ (e : leb k limit ≡ true). rw (e, e))
-    (λ (e : leb k limit ≡ false). rw e)
-
--- what a sheet is made of: `owner` as `owners` fills it, the sets as `fork::ends::leaf_nodes` and
--- `sheet::judge::root_nodes` find them, and the rows of `descent::graph_rows`
-pub sheet-of : (g : Graph) (n : ℕ) (parents old owners : List ℕ) (leaves roots : NodeSet) (base-low base-high : List ℕ) → Shaped g → Solvable g → Parents n parents → TreeOf g n parents
-    → Filled n parents old owners → ((v : ℕ) → mem leaves v ≡ leaf g v) → RootSet n parents roots → Rows (Descent g) base-low base-high → Sheet n parents owners leaves roots base-low base-high
-sheet-of g n parents old owners leaves roots base-low base-high s f table tree filled are is rows =
-    record {
-      graph = g;
-      solvable = f;
-      parents-table = table;
-      owners-long = filled .table .long;
-      fits = record { owned = record { shaped = s; nodes = tree .nodes; owners-are = filled .are g s tree }; tree = tree };
-      ends = ends-of g s n parents tree leaves roots are is;
-      rows = rows;
-    }

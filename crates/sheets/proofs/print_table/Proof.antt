@@ -4,12 +4,6 @@ use lib.Seq.{length-take-le}
 use borrow.Author.Needs.{needs}
 use Rattle.sheets.proofs.print_table.Statement.{statement}
 use Rattle.sheets.proofs.print_table.Tie as tie
-use Rattle.sheets.proofs.print_table.Reads as reads
-use Rattle.sheets.proofs.print_table.Lts as lts
-use Rattle.fragments.proofs.fragment_table.Reads as fragment-table-reads
-use Rattle.io.proofs.write_all.Reads as write-all-reads
-use Rattle.show.proofs.bytes_line.Reads as bytes-line-reads
-use Rattle.show.proofs.refusal_line.Reads as refusal-line-reads
 
 slice-aggregate-fragment-table : tie.Need-slice-aggregate-fragment-table
 slice-aggregate-fragment-table c = search needs
@@ -20,8 +14,8 @@ fragment-table-requires c κs = search needs
 enum-known-why : tie.Need-enum-known-why
 enum-known-why c = search needs
 
-refusal-line-requires : tie.Need-refusal-line-requires
-refusal-line-requires c κs = search needs
+print-refusal-requires : tie.Need-print-refusal-requires
+print-refusal-requires c κs = search needs
 
 enum-known-fragments : tie.Need-enum-known-fragments
 enum-known-fragments c = search needs
@@ -38,11 +32,11 @@ mul-out c = search needs
 array-share-prefix-out : tie.Need-array-share-prefix-out
 array-share-prefix-out c = search needs
 
-slice-aggregate-bytes-line : tie.Need-slice-aggregate-bytes-line
-slice-aggregate-bytes-line c = sym (length-take-le _ _ (omega (arith, c .before .before .before .before .before .before .before .before .fragment-table .kept .1 .0)))
+slice-aggregate-print-bytes : tie.Need-slice-aggregate-print-bytes
+slice-aggregate-print-bytes c = sym (length-take-le _ _ (omega (arith, c .before .before .before .before .before .before .before .before .fragment-table .kept .1 .0)))
 
-bytes-line-requires : tie.Need-bytes-line-requires
-bytes-line-requires c κs = search needs
+print-bytes-requires : tie.Need-print-bytes-requires
+print-bytes-requires c κs = omega (arith, slice-aggregate-print-bytes c)
 
 returns : tie.Need-returns
 returns c = search needs
@@ -60,14 +54,14 @@ print-table-spec =
     slice-aggregate-fragment-table
     fragment-table-requires
     enum-known-why
-    refusal-line-requires
+    print-refusal-requires
     enum-known-fragments
     slice-aggregate-write-all
     write-all-requires
     mul-out
     array-share-prefix-out
-    slice-aggregate-bytes-line
-    bytes-line-requires
+    slice-aggregate-print-bytes
+    print-bytes-requires
     returns
     returns-2
     returns-3)

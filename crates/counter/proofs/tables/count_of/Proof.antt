@@ -23,22 +23,22 @@ returns : tie.Need-returns
 returns c =
     λ s. no-count s (c .before .before .before .before .before .begin .ensures (s .graph) (s .edges) (s .tables) .unsolved (not-true _ (c .if1 .taken)))
 
-slice-aggregate-how-many : tie.Need-slice-aggregate-how-many
-slice-aggregate-how-many c = search needs
+slice-aggregate-count : tie.Need-slice-aggregate-count
+slice-aggregate-count c = search needs
 
-slice-aggregate-how-many-2 : tie.Need-slice-aggregate-how-many-2
-slice-aggregate-how-many-2 c = search needs
+slice-aggregate-count-2 : tie.Need-slice-aggregate-count-2
+slice-aggregate-count-2 c = search needs
 
-slice-aggregate-how-many-3 : tie.Need-slice-aggregate-how-many-3
-slice-aggregate-how-many-3 c = search needs
+slice-aggregate-count-3 : tie.Need-slice-aggregate-count-3
+slice-aggregate-count-3 c = search needs
 
-how-many-requires : tie.Need-how-many-requires
-how-many-requires c κs =
+count-requires : tie.Need-count-requires
+count-requires c κs =
     c .before .before .before .before .before .before .before .before .begin .ensures (c .before .before .before .before .before .before .before .before .before .before .before .before .before .before .before .pre .graph) (c .before .before .before .before .before .before .before .before .before .before .before .before .before .before .before .pre .edges) (c .before .before .before .before .before .before .before .before .before .before .before .before .before .before .before .pre .tables) .solved (not-false _ (c .before .before .before .if1 .left)) .sheet
 
 returns-2 : tie.Need-returns-2
 returns-2 c =
-    λ s. a-count s (c .before .before .before .before .before .before .before .before .before .begin .ensures (s .graph) (s .edges) (s .tables) .solved (not-false _ (c .before .before .before .before .if1 .left))) _ (c .how-many .ensures)
+    λ s. a-count s (c .before .before .before .before .before .before .before .before .before .begin .ensures (s .graph) (s .edges) (s .tables) .solved (not-false _ (c .before .before .before .before .if1 .left))) _ (c .count .ensures)
 
 pub count-of-spec : {M : Type 1} → statement M
 count-of-spec =
@@ -49,8 +49,8 @@ count-of-spec =
     slice-aggregate-begin-3
     begin-requires
     returns
-    slice-aggregate-how-many
-    slice-aggregate-how-many-2
-    slice-aggregate-how-many-3
-    how-many-requires
+    slice-aggregate-count
+    slice-aggregate-count-2
+    slice-aggregate-count-3
+    count-requires
     returns-2)

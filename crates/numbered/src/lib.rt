@@ -1,0 +1,171 @@
+// The readings of a graph that has some, by their numbers: how many there are, and the one with a number.
+use fork::settle::settle;
+use graph::Count;
+use nodeset::NodeSet;
+use walk::steps::Moved;
+use walk::steps::first;
+use walk::steps::next;
+ghost use mathlib.Core.Path.{_≡_};
+ghost use Prim.Native.Nat.{_≤_};
+ghost use lib.ListN.{length};
+ghost use Rattle.graph.specs.Order.{countAnswer};
+ghost use Rattle.listing.proofs.Readings.{listed};
+ghost use Rattle.descent.specs.Closing.{Long};
+ghost use Rattle.walk.specs.Decisions.{Room};
+ghost use Rattle.walk.specs.Given.{Sheet};
+ghost use Rattle.numbered.specs.Numbered.{Reaches, Finds};
+
+// The last number that a reading is asked for by.
+pub const LAST: usize = 65535;
+
+// A choice adds a pair to the descent relation, so no walk makes more of them than there are pairs.
+const PAIRS: usize = 16384;
+
+// The depth at a reading, or how many readings there are.
+pub enum Reached {
+    At(usize),
+    Only(usize),
+}
+
+// To the reading with the number k, counted from 1, if there are so many.
+fn reach(
+    parent: &[u8],
+    owner: &[u8],
+    n: usize,
+    leaves: NodeSet,
+    roots: NodeSet,
+    base_low: &[u64],
+    base_high: &[u64],
+    low: &mut [u64],
+    high: &mut [u64],
+    uppers: &mut [u8],
+    lowers: &mut [u8],
+    k: usize,
+) -> Reached
+    requires { ⌜ Sheet n (now parent) (now owner) leaves roots (now «base_low») (now «base_high») ⌝ }
+    requires { ⌜ Long (now low) (now high) × Room n (now uppers) (now lowers) × (1 ≤ k) ⌝ }
+    ensures { λ r. ⌜
+        ((s : Sheet n (now (parent .entry)) (now (owner .entry)) leaves roots (now («base_low» .entry)) (now («base_high» .entry))) →
+        Reaches (s .graph) (now (uppers .exit)) (now (lowers .exit)) (now (low .exit)) (now (high .exit)) k r)
+        ⌝ }
+{
+    let mut depth = first(
+        parent,
+        owner,
+        n,
+        leaves,
+        roots,
+        base_low,
+        base_high,
+        low,
+        high,
+        uppers,
+        lowers,
+    );
+    let before = k - 1;
+    let mut passed = 0;
+    while passed < before {
+        let Moved::To(deep) = next(
+            parent,
+            owner,
+            n,
+            leaves,
+            roots,
+            base_low,
+            base_high,
+            low,
+            high,
+            uppers,
+            lowers,
+            depth,
+        ) else {
+            return Reached::Only(passed + 1);
+        };
+        depth = deep;
+        passed += 1;
+    }
+    Reached::At(depth)
+}
+
+// How many there are, up to the last number.
+pub fn count(
+    parent: &[u8],
+    owner: &[u8],
+    n: usize,
+    leaves: NodeSet,
+    roots: NodeSet,
+    base_low: &[u64],
+    base_high: &[u64],
+) -> Count
+    requires { ⌜ Sheet n (now parent) (now owner) leaves roots (now «base_low») (now «base_high») ⌝ }
+    ensures { λ r. ⌜
+        ((s : Sheet n (now (parent .entry)) (now (owner .entry)) leaves roots (now («base_low» .entry)) (now («base_high» .entry))) →
+        r ≡ countAnswer (length (listed (s .graph))))
+        ⌝ }
+{
+    let mut low = [0u64; 128];
+    let mut high = [0u64; 128];
+    let mut uppers = [0u8; PAIRS];
+    let mut lowers = [0u8; PAIRS];
+    let Reached::Only(all) = reach(
+        parent,
+        owner,
+        n,
+        leaves,
+        roots,
+        base_low,
+        base_high,
+        &mut low,
+        &mut high,
+        &mut uppers,
+        &mut lowers,
+        LAST + 1,
+    ) else {
+        return Count::More;
+    };
+    Count::Exactly(all)
+}
+
+// Writes the reading with the number k, counted from 1, into the first n bytes, if there are so many.
+pub fn find(
+    parent: &[u8],
+    owner: &[u8],
+    n: usize,
+    leaves: NodeSet,
+    roots: NodeSet,
+    base_low: &[u64],
+    base_high: &[u64],
+    k: usize,
+    out: &mut [u8],
+) -> bool
+    requires { ⌜ Sheet n (now parent) (now owner) leaves roots (now «base_low») (now «base_high») × (1 ≤ k) × (n ≤ length (now out)) ⌝ }
+    ensures { λ r. ⌜
+        ((s : Sheet n (now (parent .entry)) (now (owner .entry)) leaves roots (now («base_low» .entry)) (now («base_high» .entry))) →
+        Finds (s .graph) k (now (out .entry)) r (now (out .exit)))
+        ⌝ }
+{
+    let mut low = [0u64; 128];
+    let mut high = [0u64; 128];
+    let mut uppers = [0u8; PAIRS];
+    let mut lowers = [0u8; PAIRS];
+    match reach(
+        parent,
+        owner,
+        n,
+        leaves,
+        roots,
+        base_low,
+        base_high,
+        &mut low,
+        &mut high,
+        &mut uppers,
+        &mut lowers,
+        k,
+    ) {
+        Reached::Only(_) => false,
+        Reached::At(_) => {
+            settle(&low, &high, n, leaves, roots, out);
+            true
+        }
+    }
+}
