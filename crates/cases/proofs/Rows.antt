@@ -14,11 +14,11 @@ use Rattle.graph.specs.Placing.{hangs}
 use Rattle.graph.specs.Order.{countAnswer}
 use Rattle.graph.specs.Rule1.{problem, up, rise, depth, shallowest, problemLeaf, staying, lowestLeaf, shifted}
 use Rattle.graph.specs.Cycle.{pairs, joined, sameEdge, cycle, dominanceAt, hypernormal, hypernormalCycle}
-use Rattle.graph.specs.Text.{digits, decimal, countLine, readingLine}
+use Rattle.graph.specs.Text.{digits, decimal, countLine, readingLine, numbered, printed}
 use Rattle.graph.specs.Drawing.{separated, leafText, fragmentText, drawing}
 use Rattle.listing.proofs.Readings.{listed}
 use Rattle.configuring.proofs.Ending.{configured}
-use Rattle.cases.specs.Table.{Row, rows, numbered, printed, AllHold}
+use Rattle.cases.specs.Table.{Row, rows, AllHold}
 use Rattle.cases.proofs.Tests.{holds?, tested}
 
 -- every row tests true

@@ -24,7 +24,8 @@ use Rattle.paths.proofs.Shape.{Shaped, well-formed-shaped}
 use Rattle.listing.proofs.Readings.{listed, listing-exists}
 use Rattle.configuring.proofs.Ending.{configured, configured-reaches, rule1-configuration}
 use Rattle.excluding.proofs.Excludes.{no-both}
-use Rattle.cases.specs.Table.{Claim, refusal, no-reading, not-hypernormal, lists, drawn, configured-to, Holds, printed}
+use Rattle.graph.specs.Text.{printed}
+use Rattle.cases.specs.Table.{Claim, refusal, no-reading, not-hypernormal, lists, drawn, configured-to, Holds}
 
 -- equal bytes, and equal lines
 

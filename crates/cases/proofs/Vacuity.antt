@@ -18,7 +18,8 @@ use Rattle.layout.proofs.Spelling.{accepted-well-formed}
 use Rattle.paths.proofs.Shape.{well-formed-shaped}
 use Rattle.listing.proofs.Readings.{listing-unique}
 use Rattle.configuring.proofs.Ending.{rule1-function}
-use Rattle.cases.specs.Table.{refusal, lists, drawn, configured-to, Holds, rows, square, fork, square-placing, printed, ConfiguredTo}
+use Rattle.graph.specs.Text.{printed}
+use Rattle.cases.specs.Table.{refusal, lists, drawn, configured-to, Holds, rows, square, fork, square-placing, ConfiguredTo}
 use Rattle.cases.proofs.Rows.{all-hold}
 
 pub eleven-rows : length rows ≡ 11

@@ -2,18 +2,18 @@
 -- What a claim means is said by the definitions of crates/graph, its relations and not the functions that compute them.
 -- Each text is the document's, in ASCII; each line of it ends with the byte 10. Of each sheet the tree edges stand in the
 -- document's order, then the dominance edges, then 0. A sheet of which the document claims several things has a row for each.
-use Prim.Native.Nat.{ℕ, suc, _-_, _≤_, _<_}
+use Prim.Native.Nat.{ℕ, _-_, _≤_, _<_}
 use mathlib.Core.Path.{_≡_}
 use mathlib.Core.List.{List, [], _∷_}
 use mathlib.Core.Bool.{true, false}
-use lib.ListN.{length, getD, take}
+use lib.ListN.{length, getD}
 use Rattle.graph.specs.Graph.{Graph}
 use Rattle.graph.specs.Sheet.{outcome, refused, accepted}
 use Rattle.graph.specs.Placing.{Configuration, Solvable}
-use Rattle.graph.specs.Order.{Listing, entry, limit, countAnswer}
+use Rattle.graph.specs.Order.{Listing, entry}
 use Rattle.graph.specs.Rule1.{HandedOut}
 use Rattle.graph.specs.Cycle.{cycle, hypernormal, hypernormalCycle}
-use Rattle.graph.specs.Text.{countLine, readingLine}
+use Rattle.graph.specs.Text.{printed}
 use Rattle.graph.specs.Drawing.{drawing}
 use Rattle.graph.specs.Refusal.{number}
 use Rattle.graph.specs.declared.Refusal.{Refusal}
@@ -52,15 +52,6 @@ pub record OtherCycle (bs cs : List ℕ) : Type 0 where
   pub is-accepted : outcome bs ≡ accepted graph
   pub is-cycle : cycle graph cs ≡ true
   pub is-other : hypernormal graph cs ≡ false
-
--- "Each further line is a reading's number and root:leaf for each hung root": the lines of the readings from number k on
-unfoldable pub numbered : Graph → ℕ → List (List ℕ) → List (List ℕ)
-numbered g k [] = []
-numbered g k (p ∷ ps) = readingLine g k p ∷ numbered g (suc k) ps
-
--- "Line 1 is "readings" and the count", and "at most 65,535 lines" follow
-unfoldable pub printed : Graph → List (List ℕ) → List (List ℕ)
-printed g ps = countLine (countAnswer (length ps)) ∷ numbered g 1 (take limit ps)
 
 pub record Printed (bs : List ℕ) (ls : List (List ℕ)) : Type 0 where
   pub graph : Graph

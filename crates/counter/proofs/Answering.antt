@@ -2,7 +2,7 @@
 use Prim.Native.Nat.{ℕ, _+_, _-_, _*_, _≤_, _<_}
 use mathlib.Core.Path.{_≡_, refl, sym, ap, subst, _∙_}
 use mathlib.Core.List.{List, _++_}
-use mathlib.Core.Bool.{Bool, true, false, true≢false}
+use mathlib.Core.Bool.{Bool, true, false}
 use mathlib.Core.Logic.{_⊎_, inl, inr, ⊎-elim}
 use native.Mathlib.Omega.{arith}
 use lib.ListN.{length, take, drop, take-append-drop}
@@ -19,10 +19,7 @@ use Rattle.graph.specs.declared.Refusal.the-variants.{NoReading as No-reading, 
 use Rattle.paths.proofs.Shape.{Shaped, well-formed-shaped}
 use Rattle.paths.proofs.Forests.{placing-length}
 use Rattle.listing.proofs.Readings.{listed, listing-exists, listed-solved, one-below}
-use Rattle.sheet.specs.Judge.{Parents}
-use Rattle.sheet.proofs.Whole.{parents-held}
 use Rattle.rows.specs.Rows.{Tables}
-use Rattle.descent.specs.Closing.{Long}
 use Rattle.walk.specs.Given.{Sheet}
 use Rattle.witness.specs.Thinning.{Unsolved}
 use Rattle.configure.specs.Given.{Solved}
@@ -32,13 +29,13 @@ use Rattle.draw.specs.Drawn as text
 use Rattle.placings.specs.Answered.{Answered}
 use Rattle.placings.specs.declared.Answers.{Answers}
 use Rattle.numbered.specs.Numbered.{Finds}
-use Rattle.start.specs.Started.{SheetOf, Started}
+use Rattle.start.specs.Given.{Given}
+use Rattle.start.specs.Started.{SheetOf}
 use Rattle.start.specs.declared.Start.{Start}
-use Rattle.counter.specs.Calls.{Unsolvable, reach, CycleWritten, Counts, ReadingCall, ConfigurationCall, DrawingCall}
+use Rattle.counter.specs.Calls.{Unsolvable, Counts, ReadingCall, ConfigurationCall, DrawingCall}
 use Rattle.counter.specs.Calls as calls
 use Rattle.counter.specs.Checks.{PlacingCall}
 use Rattle.counter.specs.Checks as checks
-use Rattle.counter.specs.Given.{Given}
 use Rattle.counter.specs.declared.Counted.the-variants.{Readings, Refused as CountRefused}
 use Rattle.counter.specs.declared.Placed.{Placed}
 use Rattle.counter.specs.declared.Placed.the-variants.{Done, NoReading, Refused}
@@ -71,12 +68,6 @@ module _ {n : ℕ} {parents heads-low heads-high : List ℕ} (s : Given n parent
 
   shaped : Shaped (s .graph)
   shaped = well-formed-shaped (s .tables .well-formed)
-
-  pub parents-table : Parents n parents
-  parents-table = rw nodes (parents-held _ _ _ _ _ _ _ (s .tables .well-formed .few-nodes) (s .tables .holds))
-
-  pub heads-long : Long heads-low heads-high
-  heads-long = (s .tables .holds .low-long, s .tables .holds .high-long)
 
   pub unsolved-tables : Unsolvable (s .graph) → Unsolved n parents heads-low heads-high
   unsolved-tables u = record { graph = s .graph; edges = s .edges; tables = s .tables; unsolvable = u }

@@ -1,4 +1,5 @@
--- What the two checks answer. They are lent nothing to write into.
+-- What the two checks answer, which are lent nothing to write into; and the numbers of all answers that Calls.antt does not
+-- have.
 use Prim.Native.Nat.{ℕ, _≤_, _<_}
 use mathlib.Core.Path.{_≡_}
 use mathlib.Core.List.{List}
@@ -8,6 +9,10 @@ use Rattle.graph.specs.Sheet.{Outcome, refused, accepted}
 use Rattle.graph.specs.Cycle.{hypernormalCycle}
 use Rattle.graph.specs.Refusal.{number}
 use Rattle.graph.specs.declared.Refusal.the-variants.{SmallBuffer}
+use Rattle.tidy.specs.declared.Tidied.{Tidied}
+use Rattle.tidy.specs.declared.Tidied.the-variants.{Length, Refused as TidiedRefused}
+use Rattle.fragments.specs.declared.Table.{Table}
+use Rattle.fragments.specs.declared.Table.the-variants.{Filled, Refused as TableRefused}
 use Rattle.placings.specs.Answered.{Answered}
 use Rattle.placings.specs.declared.Answers.{Answers}
 use Rattle.counter.specs.declared.CycleChecked.{CycleChecked}
@@ -23,6 +28,14 @@ cycleNumber (CycleRefused why) = number why
 abbrev pub placingNumber : PlacingChecked → ℕ
 placingNumber (Answered-so a) = 0
 placingNumber (Refused why) = number why
+
+abbrev pub tidiedNumber : Tidied → ℕ
+tidiedNumber (Length k) = 0
+tidiedNumber (TidiedRefused why) = number why
+
+abbrev pub tableNumber : Table → ℕ
+tableNumber (Filled k) = 0
+tableNumber (TableRefused why) = number why
 
 -- "The check of a cycle says yes exactly when the bytes spell a simple hypernormal cycle of the sheet"; "no least length for
 -- a cycle to be checked"

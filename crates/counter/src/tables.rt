@@ -14,9 +14,9 @@ use numbered::count;
 use numbered::find;
 use start::begin;
 use witness::witness;
+ghost use Rattle.start.specs.Given.{Given};
 ghost use Rattle.counter.specs.Calls.{Counts, ReadingCall, ConfigurationCall, DrawingCall};
 ghost use Rattle.counter.specs.Checks.{PlacingCall};
-ghost use Rattle.counter.specs.Given.{Given};
 
 // The bytes that a drawing is lent at least.
 const DRAWING: usize = 1024;

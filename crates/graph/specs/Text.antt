@@ -3,9 +3,11 @@ use Prim.Native.Nat.{ℕ, zero, suc, _+_, _/_, _%_}
 use mathlib.Core.List.{List, [], _∷_, _++_}
 use mathlib.Core.Bool.{cond, not, _&&_}
 use lib.Dec.{eqb, ltb}
+use lib.ListN.{length, take}
 use Rattle.finite.specs.Below.{spread}
 use Rattle.graph.specs.Graph.{Graph, root, none}
 use Rattle.graph.specs.Placing.{at}
+use Rattle.graph.specs.Order.{limit, countAnswer}
 use Rattle.graph.specs.Refusal.{number}
 use Rattle.graph.specs.declared.Refusal.{Refusal}
 use Rattle.graph.specs.declared.Count.{Count}
@@ -51,3 +53,12 @@ readingLine g k p =
 -- "A refusal is one line, "refused" and its number."
 unfoldable pub refusedLine : Refusal → List ℕ
 refusedLine why = line (refused-word ++ decimal (number why))
+
+-- the lines of the readings from number k on
+unfoldable pub numbered : Graph → ℕ → List (List ℕ) → List (List ℕ)
+numbered g k [] = []
+numbered g k (p ∷ ps) = readingLine g k p ∷ numbered g (suc k) ps
+
+-- "Line 1 is "readings" and the count", and "at most 65,535 lines" follow
+unfoldable pub printed : Graph → List (List ℕ) → List (List ℕ)
+printed g ps = countLine (countAnswer (length ps)) ∷ numbered g 1 (take limit ps)

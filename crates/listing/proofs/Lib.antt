@@ -5,3 +5,4 @@ pub mod Entries
 pub mod Readings
 pub mod Guided
 pub mod Induction
+pub mod Reduced

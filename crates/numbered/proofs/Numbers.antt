@@ -1,6 +1,6 @@
 -- The readings by their numbers: where the walk stands, and the answer to how many there are.
 use Prim.Native.Nat.{ℕ, _+_, _-_, _*_, _≤_, _<_}
-use mathlib.Core.Path.{_≡_, refl, sym, ap, subst, _∙_}
+use mathlib.Core.Path.{_≡_, refl, sym, ap, _∙_}
 use mathlib.Core.List.{List, _++_}
 use mathlib.Core.Bool.{true, false, true≢false}
 use native.Mathlib.Nat.{mul-le-mul}

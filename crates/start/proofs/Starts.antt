@@ -9,37 +9,46 @@ use Rattle.graph.specs.Graph.{Graph, Descent, leaf}
 use Rattle.graph.specs.Placing.{Solvable}
 use Rattle.paths.proofs.Shape.{Shaped, well-formed-shaped}
 use Rattle.sheet.specs.Judge.{Parents, RootSet}
-use Rattle.rows.specs.Rows.{Rows, Tables}
+use Rattle.sheet.proofs.Whole.{parents-held}
+use Rattle.rows.specs.Rows.{Rows}
+use Rattle.descent.specs.Closing.{Long}
 use Rattle.solvable.specs.Tables as test
 use Rattle.fork.specs.Given.{TreeOf}
 use Rattle.fork.proofs.Trees.{ends-of}
 use Rattle.walk.specs.Given.{Filled}
+use Rattle.start.specs.Given.{Given}
 use Rattle.start.specs.Started.{Started}
 use Rattle.start.specs.declared.Start.{Start}
 
-module _ {g : Graph} {n : ℕ} {parents heads-low heads-high : List ℕ} {edges : ℕ} (t : Tables g n parents heads-low heads-high edges) (table : Parents n parents) where
-  shaped : Shaped g
-  shaped = well-formed-shaped (t .well-formed)
+module _ {n : ℕ} {parents heads-low heads-high : List ℕ} (s : Given n parents heads-low heads-high) where
+  shaped : Shaped (s .graph)
+  shaped = well-formed-shaped (s .tables .well-formed)
 
-  tree : TreeOf g n parents
-  tree = record { nodes = t .nodes; parent-is = t .holds .parent-is }
+  pub parents-table : Parents n parents
+  parents-table = rw (s .tables .nodes) (parents-held _ _ _ _ _ _ _ (s .tables .well-formed .few-nodes) (s .tables .holds))
 
-  pub started : (old owners low high : List ℕ) (r : Start) → Filled n parents old owners → Rows (Descent g) low high
+  pub heads-long : Long heads-low heads-high
+  heads-long = (s .tables .holds .low-long, s .tables .holds .high-long)
+
+  tree : TreeOf (s .graph) n parents
+  tree = record { nodes = s .tables .nodes; parent-is = s .tables .holds .parent-is }
+
+  pub started : (old owners low high : List ℕ) (r : Start) → Filled n parents old owners → Rows (Descent (s .graph)) low high
       → ((h : Graph) → Shaped h → test.TreeOf h n parents → Rows (Descent h) low high → (r .solvable ≡ true) ↔ Solvable h)
       → ((h : Graph) → Shaped h → TreeOf h n parents → (v : ℕ) → mem (r .leaves) v ≡ leaf h v) → RootSet n parents (r .roots)
-      → Started g n parents owners low high r
+      → Started (s .graph) n parents owners low high r
   started old owners low high r filled rows test-is leaves-are roots-are =
-      let is = test-is g shaped (record { nodes = t .nodes; parent-is = t .holds .parent-is }) rows in
+      let is = test-is (s .graph) shaped (record { nodes = s .tables .nodes; parent-is = s .tables .holds .parent-is }) rows in
       record {
         solved = λ e.
             record {
               sheet = record {
-                graph = g;
+                graph = s .graph;
                 solvable = is .0 e;
-                parents-table = table;
+                parents-table = parents-table;
                 owners-long = filled .table .long;
-                fits = record { owned = record { shaped = shaped; nodes = t .nodes; owners-are = filled .are g shaped tree }; tree = tree };
-                ends = ends-of g shaped n parents tree (r .leaves) (r .roots) (leaves-are g shaped tree) roots-are;
+                fits = record { owned = record { shaped = shaped; nodes = s .tables .nodes; owners-are = filled .are (s .graph) shaped tree }; tree = tree };
+                ends = ends-of (s .graph) shaped n parents tree (r .leaves) (r .roots) (leaves-are (s .graph) shaped tree) roots-are;
                 rows = rows;
               };
               is = refl;

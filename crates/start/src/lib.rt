@@ -6,12 +6,10 @@ use nodeset::NodeSet;
 use sheet::judge::root_nodes;
 use solvable::solvable;
 use walk::owners::owners;
-ghost use Prim.Native.Nat.{ℕ, _≤_};
+ghost use Prim.Native.Nat.{_≤_};
 ghost use lib.ListN.{length};
-ghost use Rattle.graph.specs.Graph.{Graph};
-ghost use Rattle.sheet.specs.Judge.{Parents};
-ghost use Rattle.rows.specs.Rows.{Tables};
 ghost use Rattle.descent.specs.Closing.{Long};
+ghost use Rattle.start.specs.Given.{Given};
 ghost use Rattle.start.specs.Started.{Started};
 
 pub struct Start {
@@ -29,16 +27,17 @@ pub fn begin(
     low: &mut [u64],
     high: &mut [u64],
 ) -> Start
-    requires { ⌜ Parents n (now parent) × Long (now «heads_low») (now «heads_high») × (n ≤ length (now owner)) × Long (now low) (now high) ⌝ }
+    requires { ⌜ Given n (now parent) (now «heads_low») (now «heads_high») × (n ≤ length (now owner)) × Long (now low) (now high) ⌝ }
     ensures { λ r. ⌜
-        ((g : Graph) (edges : ℕ) → Tables g n (now (parent .entry)) (now («heads_low» .entry)) (now («heads_high» .entry)) edges →
-        Started g n (now (parent .entry)) (now (owner .exit)) (now (low .exit)) (now (high .exit)) r)
+        ((s : Given n (now (parent .entry)) (now («heads_low» .entry)) (now («heads_high» .entry))) →
+        Started (s .graph) n (now (parent .entry)) (now (owner .exit)) (now (low .exit)) (now (high .exit)) r)
         ⌝ }
 {
     graph_rows(parent, heads_low, heads_high, n, low, high);
     owners(parent, n, owner);
+    let solved = solvable(parent, n, low, high);
     Start {
-        solvable: solvable(parent, n, low, high),
+        solvable: solved,
         leaves: leaf_nodes(parent, n),
         roots: root_nodes(parent, n),
     }

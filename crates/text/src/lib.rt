@@ -13,6 +13,9 @@ ghost use Rattle.text.specs.Lines.{Written, hungAt, lineIn, hexDigit, he
 // What a placing has for a root on top.
 const TOP: u8 = 255;
 
+// No line of a reading is longer.
+pub const LINE: usize = 1100;
+
 fn put(bytes: &[u8], out: &mut [u8], at: usize) -> usize
     requires { ⌜ at + length (now bytes) ≤ length (now out) ⌝ }
     ensures { λ r. ⌜ Written (now (out .entry)) at (now (bytes .entry)) (now (out .exit)) r ⌝ }
@@ -92,8 +95,9 @@ pub fn reading_line(
     out: &mut [u8],
     at: usize,
 ) -> usize
-    requires { ⌜ (n ≤ 128) × (n ≤ length (now placing)) × (at + length (lineIn n roots (now placing) k) ≤ length (now out)) ⌝ }
+    requires { ⌜ (n ≤ 128) × (n ≤ length (now placing)) × (at + 1100 ≤ length (now out)) ⌝ }
     ensures { λ e. ⌜ Written (now (out .entry)) at (lineIn n roots (now (placing .entry)) k) (now (out .exit)) e ⌝ }
+    ensures { λ e. ⌜ e ≤ length (now (out .entry)) ⌝ }
 {
     let mut end = decimal(k, out, at);
     for r in 0..n {

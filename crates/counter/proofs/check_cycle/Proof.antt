@@ -2,9 +2,9 @@
 use mathlib.Core.Path.{refl, ap}
 use denote.Ref.{now}
 use Rattle.rows.proofs.Answers.{answered-refused}
-use Rattle.counter.proofs.Sheets.{sheet-of}
+use Rattle.start.proofs.Sheets.{sheet-of}
 use Rattle.counter.specs.declared.CycleChecked.the-variants.{Answer}
-use Rattle.counter.proofs.Answering.{parents-table, heads-long}
+use Rattle.start.proofs.Starts.{parents-table, heads-long}
 use borrow.Author.Needs.{needs}
 use Rattle.counter.proofs.check_cycle.Statement.{statement}
 use Rattle.counter.proofs.check_cycle.Tie as tie

@@ -7,7 +7,7 @@ use lib.ListN.{length, getD}
 use borrow.Author.Needs.{needs}
 use Rattle.text.specs.Lines.{Written, hungAt, hungIn}
 use Rattle.text.proofs.Stores.{written-none, written-more, written-byte, written-length, room}
-use Rattle.text.proofs.Lines.{hung-none, hung-more, hung-longer, reading-is, reading-length}
+use Rattle.text.proofs.Lines.{hung-none, hung-more, hung-longer, reading-is, reading-length, reading-short}
 use Rattle.text.proofs.reading_line.Statement.{statement}
 use Rattle.text.proofs.reading_line.Tie as tie
 
@@ -21,13 +21,15 @@ abbrev μ-loop : tie.MeasureT-loop
 decimal-requires : tie.Need-decimal-requires Inv-loop μ-loop
 decimal-requires c κs =
     let a = c .before .before .before .args in
-    omega (arith, reading-length (a .roots) (a .n) (now (a .placing)) (a .k))
+    let short = reading-short (a .roots) (a .n) (now (a .placing)) (a .k) (c .before .before .before .pre .0) (λ v. omega (arith, c .before .before .shared-slice-known .given v)) in
+    omega (arith, short, reading-length (a .roots) (a .n) (now (a .placing)) (a .k))
 
 loop-holds : tie.Need-loop-holds Inv-loop μ-loop
 loop-holds c =
     let a = c .before .before .before .before .before .before .args in
     let d = c .before .before .decimal in
     let long = reading-length (a .roots) (a .n) (now (a .placing)) (a .k) in
+    let short = reading-short (a .roots) (a .n) (now (a .placing)) (a .k) (c .before .before .before .before .before .before .pre .0) (λ v. omega (arith, c .before .before .before .before .before .shared-slice-known .given v)) in
     (omega arith, refl, omega (arith, d .ensures .after, d .kept .1 .0), rw hung-none (written-none _ _))
 
 shared-slice-read-hung : tie.Need-shared-slice-read-hung Inv-loop μ-loop
@@ -74,11 +76,13 @@ returns : tie.Need-returns Inv-loop μ-loop
 returns c =
     let l = c .before .loop in
     let a = c .before .before .before .before .before .before .before .before .args in
-    let all : l .r ≡ a .n = omega arith in
-    rw (reading-is, ← all) (written-byte _ _ _ _ _ _ (written-more _ _ _ _ _ _ _ _ (c .before .before .before .before .decimal .ensures) (l .inv .3)))
+    let all : l .r ≡ a .n = omega arith in (
+      rw (reading-is, ← all) (written-byte _ _ _ _ _ _ (written-more _ _ _ _ _ _ _ _ (c .before .before .before .before .decimal .ensures) (l .inv .3))),
+      omega (arith, hung-longer (a .roots) (now (a .placing)) (l .r) (a .n) (omega arith), l .inv .3 .after),
+    )
 
 same-length : tie.Need-same-length Inv-loop μ-loop
-same-length c = written-length _ _ _ _ _ (returns c)
+same-length c = written-length _ _ _ _ _ (returns c .0)
 
 pub reading-line-spec : {M : Type 1} → statement M
 reading-line-spec =

@@ -1,5 +1,6 @@
 -- 10, or the three answers.
-use Rattle.counter.proofs.Answering.{parents-table, heads-long, small-placing, placing-answered}
+use Rattle.counter.proofs.Answering.{small-placing, placing-answered}
+use Rattle.start.proofs.Starts.{parents-table, heads-long}
 use Rattle.counter.proofs.tables.checked_placing.Statement.{statement}
 use Rattle.counter.proofs.tables.checked_placing.Tie as tie
 

@@ -1,7 +1,8 @@
 -- 9, or the count.
 use mathlib.Core.Path.{refl}
 use borrow.Author.Tests.{not-true, not-false}
-use Rattle.counter.proofs.Answering.{parents-table, heads-long, no-count, a-count}
+use Rattle.counter.proofs.Answering.{no-count, a-count}
+use Rattle.start.proofs.Starts.{parents-table}
 use borrow.Author.Needs.{needs}
 use Rattle.counter.proofs.tables.count_of.Statement.{statement}
 use Rattle.counter.proofs.tables.count_of.Tie as tie
@@ -17,11 +18,11 @@ slice-aggregate-begin-3 c = search needs
 
 begin-requires : tie.Need-begin-requires
 begin-requires c κs =
-    let s = c .before .before .before .before .before .before .pre in (parents-table s, heads-long s, parents-table s .few, (refl, refl))
+    let s = c .before .before .before .before .before .before .pre in (s, parents-table s .few, (refl, refl))
 
 returns : tie.Need-returns
 returns c =
-    λ s. no-count s (c .before .before .before .before .before .begin .ensures (s .graph) (s .edges) (s .tables) .unsolved (not-true _ (c .if1 .taken)))
+    λ s. no-count s (c .before .before .before .before .before .begin .ensures s .unsolved (not-true _ (c .if1 .taken)))
 
 slice-aggregate-count : tie.Need-slice-aggregate-count
 slice-aggregate-count c = search needs
@@ -34,11 +35,11 @@ slice-aggregate-count-3 c = search needs
 
 count-requires : tie.Need-count-requires
 count-requires c κs =
-    c .before .before .before .before .before .before .before .before .begin .ensures (c .before .before .before .before .before .before .before .before .before .before .before .before .before .before .before .pre .graph) (c .before .before .before .before .before .before .before .before .before .before .before .before .before .before .before .pre .edges) (c .before .before .before .before .before .before .before .before .before .before .before .before .before .before .before .pre .tables) .solved (not-false _ (c .before .before .before .if1 .left)) .sheet
+    c .before .before .before .before .before .before .before .before .begin .ensures (c .before .before .before .before .before .before .before .before .before .before .before .before .before .before .before .pre) .solved (not-false _ (c .before .before .before .if1 .left)) .sheet
 
 returns-2 : tie.Need-returns-2
 returns-2 c =
-    λ s. a-count s (c .before .before .before .before .before .before .before .before .before .begin .ensures (s .graph) (s .edges) (s .tables) .solved (not-false _ (c .before .before .before .before .if1 .left))) _ (c .count .ensures)
+    λ s. a-count s (c .before .before .before .before .before .before .before .before .before .begin .ensures s .solved (not-false _ (c .before .before .before .before .if1 .left))) _ (c .count .ensures)
 
 pub count-of-spec : {M : Type 1} → statement M
 count-of-spec =

@@ -7,7 +7,7 @@ use Rattle.sheet.specs.Read.{Reads}
 use Rattle.sheet.specs.declared.read.Answer.{Answer}
 use Rattle.sheet.specs.declared.judge.Verdict.the-variants.{Accepted}
 use Rattle.rows.proofs.Answers.{answered-accepted}
-use Rattle.counter.specs.Given.{Given}
+use Rattle.start.specs.Given.{Given}
 
 pub record Sheet (bs : List ℕ) (r : Answer) : Type 0 where
   pub tables : Given (r .graph .n) (r .graph .parent) (r .graph .low) (r .graph .high)

@@ -1,0 +1,118 @@
+-- The walk stands at the reading after those passed, as long as there are more.
+use Prim.Native.Nat.{ℕ, _-_, _<_}
+use mathlib.Core.Path.{_≡_, refl, sym}
+use mathlib.Core.Bool.{Bool, true, false, cond}
+use native.Mathlib.Omega.{arith}
+use lib.ListN.{length}
+use lib.Seq.{length-take-le}
+use borrow.Author.Needs.{needs}
+use Rattle.graph.specs.Order.{limit}
+use Rattle.walk.specs.Given.{Sheet}
+use Rattle.walk.specs.States.{Stands}
+use Rattle.numbered.proofs.Numbers.{room}
+use Rattle.readings.proofs.print_readings.Statement.{statement}
+use Rattle.readings.proofs.print_readings.Tie as tie
+
+-- a page takes away from what is left
+fewer-left : (more b : Bool) (passed last : ℕ) → more ≡ true → passed < limit → passed < last → (b ≡ true → last < limit) → cond b (limit - last) 0 < cond more (limit - passed) 0
+fewer-left more true passed last e h on f = rw e (omega (arith, f refl))
+fewer-left more false passed last e h on f = rw e (omega arith)
+
+abbrev Inv-loop : tie.InvT-loop
+Inv-loop parent owner n leaves roots base-low base-high low₀ high₀ uppers₀ lowers₀ depth₀ out₀ passed₀ more₀ low high uppers lowers depth out passed more =
+    ((length low ≡ 128) × (length high ≡ 128))
+    × ((length uppers ≡ 16384) × (length lowers ≡ 16384))
+    × (length out ≡ 32768)
+    × (more ≡ true → (passed < limit) × ((s : Sheet n parent owner leaves roots base-low base-high) → Stands (s .graph) uppers lowers low high depth passed))
+
+abbrev μ-loop : tie.MeasureT-loop
+μ-loop parent owner n leaves roots base-low base-high low₀ high₀ uppers₀ lowers₀ depth₀ out₀ passed₀ more₀ low high uppers lowers depth out passed more = cond more (limit - passed) 0
+
+slice-aggregate-first : tie.Need-slice-aggregate-first Inv-loop μ-loop
+slice-aggregate-first c = search needs
+
+slice-aggregate-first-2 : tie.Need-slice-aggregate-first-2 Inv-loop μ-loop
+slice-aggregate-first-2 c = search needs
+
+slice-aggregate-first-3 : tie.Need-slice-aggregate-first-3 Inv-loop μ-loop
+slice-aggregate-first-3 c = search needs
+
+slice-aggregate-first-4 : tie.Need-slice-aggregate-first-4 Inv-loop μ-loop
+slice-aggregate-first-4 c = search needs
+
+first-requires : tie.Need-first-requires Inv-loop μ-loop
+first-requires c κs =
+    (c .before .before .before .before .before .before .before .before .pre, ((search needs, search needs), (omega (arith, room (c .before .before .before .before .before .before .before .before .pre)), omega (arith, room (c .before .before .before .before .before .before .before .before .pre)))))
+
+loop-holds : tie.Need-loop-holds Inv-loop μ-loop
+loop-holds c =
+    ((search needs, search needs), (search needs, search needs), refl, λ e. (omega arith, c .before .before .before .before .first .ensures))
+
+slice-aggregate-fill : tie.Need-slice-aggregate-fill Inv-loop μ-loop
+slice-aggregate-fill c = search needs
+
+slice-aggregate-fill-2 : tie.Need-slice-aggregate-fill-2 Inv-loop μ-loop
+slice-aggregate-fill-2 c = search needs
+
+slice-aggregate-fill-3 : tie.Need-slice-aggregate-fill-3 Inv-loop μ-loop
+slice-aggregate-fill-3 c = search needs
+
+slice-aggregate-fill-4 : tie.Need-slice-aggregate-fill-4 Inv-loop μ-loop
+slice-aggregate-fill-4 c = search needs
+
+slice-aggregate-fill-5 : tie.Need-slice-aggregate-fill-5 Inv-loop μ-loop
+slice-aggregate-fill-5 c = search needs
+
+fill-requires : tie.Need-fill-requires Inv-loop μ-loop
+fill-requires c κs =
+    let l = c .before .before .before .before .before .before .loop in
+    let p = c .before .before .before .before .before .before .before .before .before .before .before .before .before .before .before .before .before .before .before .before .pre in
+    (p, (((l .inv .0 .0, l .inv .0 .1), (omega (arith, room p, l .inv .1 .0), omega (arith, room p, l .inv .1 .1)), l .inv .3 (c .before .before .before .before .before .loop-test .taken) .0, omega (arith, l .inv .2)), l .inv .3 (c .before .before .before .before .before .loop-test .taken) .1))
+
+array-share-prefix-out : tie.Need-array-share-prefix-out Inv-loop μ-loop
+array-share-prefix-out c =
+    c .before .before .before .before .before .fill .ensures .0 .0
+
+slice-aggregate-write-all : tie.Need-slice-aggregate-write-all Inv-loop μ-loop
+slice-aggregate-write-all c =
+    sym (length-take-le _ _ (array-share-prefix-out (c .before)))
+
+write-all-requires : tie.Need-write-all-requires Inv-loop μ-loop
+write-all-requires c κs = search needs
+
+loop-less : tie.Need-loop-less Inv-loop μ-loop
+loop-less c =
+    let l = c .before .before .before .before .before .before .before .before .before .before .before .before .before .before .loop in
+    fewer-left (l .more) (c .before .before .before .before .before .before .before .fill .result .more) (l .passed) (c .before .before .before .before .before .before .before .fill .result .last) (c .before .before .before .before .before .before .before .before .before .before .before .before .before .loop-test .taken) (l .inv .3 (c .before .before .before .before .before .before .before .before .before .before .before .before .before .loop-test .taken) .0) (c .before .before .before .before .before .before .before .fill .ensures .0 .1) (c .before .before .before .before .before .before .before .fill .ensures .0 .2)
+
+loop-again : tie.Need-loop-again Inv-loop μ-loop
+loop-again c =
+    ((search needs, search needs), (search needs, search needs), search needs, λ e. (c .before .before .before .before .before .before .before .fill .ensures .0 .2 e, λ s. c .before .before .before .before .before .before .before .fill .ensures .1 s .next e))
+
+returns : tie.Need-returns Inv-loop μ-loop
+returns c = search needs
+
+pub print-readings-spec : {M : Type 1} → statement M
+print-readings-spec =
+    tie.close
+    (tie.spec
+    Inv-loop
+    μ-loop
+    slice-aggregate-first
+    slice-aggregate-first-2
+    slice-aggregate-first-3
+    slice-aggregate-first-4
+    first-requires
+    loop-holds
+    slice-aggregate-fill
+    slice-aggregate-fill-2
+    slice-aggregate-fill-3
+    slice-aggregate-fill-4
+    slice-aggregate-fill-5
+    fill-requires
+    array-share-prefix-out
+    slice-aggregate-write-all
+    write-all-requires
+    loop-less
+    loop-again
+    returns)
