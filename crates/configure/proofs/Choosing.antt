@@ -1,47 +1,24 @@
--- The sets of leaves that carry roots, one byte more at a time, and the choice among them, one leaf more at a time; the
--- chosen leaf is the problem leaf of Rule 1.
-use Prim.Native.Nat.{ℕ, suc, _+_, _≤_, _<_}
+-- The choice among the leaves that carry several roots, one leaf more at a time; the chosen leaf is the problem leaf of
+-- Rule 1.
+use Prim.Native.Nat.{ℕ, _+_, _≤_, _<_}
 use mathlib.Core.Path.{_≡_, sym, _∙_}
 use mathlib.Core.List.{List}
-use mathlib.Core.Bool.{Bool, true, false, cond, not, _&&_, _||_, true≢false}
+use mathlib.Core.Bool.{true, false, not, _&&_, _||_, true≢false}
 use mathlib.Core.Logic.{⊎-elim}
 use native.Mathlib.Numerals.{add-one}
 use native.Mathlib.Omega.{arith}
 use lib.Dec.{leb, ltb}
-use borrow.Author.Tests.{lt-ltb, le-ltb, ltb-true, ltb-false, le-leb, lt-leb, leb-true, leb-false}
-use Rattle.finite.specs.Below.{any, count, least}
-use Rattle.finite.proofs.Laws.{by-bool, last-or-below, and-both, any-at, any-found, count-more, least-is, least-at, least-below, all-every, all-fails, and-false}
+use borrow.Author.Tests.{lt-ltb, le-ltb, ltb-true, ltb-false, le-leb, lt-leb}
+use Rattle.finite.specs.Below.{any, least}
+use Rattle.finite.proofs.Laws.{by-bool, last-or-below, and-both, any-at, any-found, least-is, least-at, least-below, all-every, all-fails, and-false}
 use Rattle.graph.specs.Graph.{Graph}
 use Rattle.graph.specs.Rule1.{problem, depth, shallowest, problemLeaf}
-use Rattle.configuring.proofs.Counting.{least-found}
+use Rattle.finite.proofs.Counting.{least-found}
 use Rattle.nodeset.specs.Set.{mem}
 use Rattle.nodeset.specs.declared.NodeSet.{NodeSet}
 use Rattle.configure.specs.Given.{Solved}
-use Rattle.configure.specs.Carried.{carried, Carrying, better, Best}
+use Rattle.configure.specs.Carried.{Carrying, better, Best}
 use Rattle.configure.proofs.Held.{few, several-is}
-
--- one byte more
-
-pub carrying-none : (k l : ℕ) (p : List ℕ) → leb (suc k) (count 0 (carried p l)) ≡ false
-unfolding count
-carrying-none k l p = lt-leb (suc k) 0 (omega arith)
-
-once-more-is : (c : ℕ) (b : Bool) → leb 1 (c + cond b 1 0) ≡ (b || leb 1 c)
-once-more-is c true = le-leb 1 (c + 1) (omega arith)
-once-more-is c false = let e : c + 0 ≡ c = omega arith in rw e
-
-twice-more-is : (c : ℕ) (b : Bool) → leb 2 (c + cond b 1 0) ≡ (leb 1 c && b || leb 2 c)
-twice-more-is c true =
-    by-bool (leb 1 c)
-    (λ (t : leb 1 c ≡ true). rw (t, le-leb 2 (c + 1) (omega (arith, leb-true 1 c t))))
-    (λ (t : leb 1 c ≡ false). rw (t, lt-leb 2 (c + 1) (omega (arith, leb-false 1 c t)), lt-leb 2 c (omega (arith, leb-false 1 c t))))
-twice-more-is c false = let e : c + 0 ≡ c = omega arith in rw (e, and-false (leb 1 c))
-
-pub once-more : (v : ℕ) (p : List ℕ) (l : ℕ) → leb 1 (count (v + 1) (carried p l)) ≡ (carried p l v || leb 1 (count v (carried p l)))
-once-more v p l = rw (count-more v (carried p l)) (once-more-is (count v (carried p l)) (carried p l v))
-
-pub twice-more : (v : ℕ) (p : List ℕ) (l : ℕ) → leb 2 (count (v + 1) (carried p l)) ≡ (leb 1 (count v (carried p l)) && carried p l v || leb 2 (count v (carried p l)))
-twice-more v p l = rw (count-more v (carried p l)) (twice-more-is (count v (carried p l)) (carried p l v))
 
 -- one leaf more
 

@@ -1,81 +1,37 @@
--- What the tables and the bytes say of a graph that they are given for, and of a solved form of it: which nodes are
--- inner, what lies above a node, and what a leaf carries.
+-- What the tables and the bytes say of a solved form of the graph that they are given for: what lies above a node, and
+-- what a leaf carries.
 use Prim.Native.Nat.{ℕ, _≤_, _<_}
 use mathlib.Core.Path.{_≡_, sym, ap, _∙_}
 use mathlib.Core.List.{List}
-use mathlib.Core.Bool.{true, false, not}
+use mathlib.Core.Bool.{true, false}
 use mathlib.Core.Logic.{⊎-elim}
 use native.Mathlib.Omega.{arith}
 use lib.Dec.{eqb, leb}
 use lib.ListN.{length, getD}
-use borrow.Author.Tests.{eq-eqb, eqb-true, eqb-false, lt-ltb, leb-true}
+use borrow.Author.Tests.{eq-eqb, eqb-true, eqb-false, leb-true}
 use Rattle.finite.specs.Below.{any, count}
-use Rattle.finite.proofs.Laws.{by-bool, any-at, any-found, any-cut, any-ext, count-ext}
-use Rattle.graph.specs.Graph.{Edge, Graph, entered, left, leaf, parent, none}
+use Rattle.finite.proofs.Laws.{by-bool, any-found, any-cut, any-ext, count-ext}
+use Rattle.graph.specs.Graph.{Graph, none}
 use Rattle.graph.specs.Placing.{at, hangs}
 use Rattle.graph.specs.Rule1.{problem, up}
-use Rattle.layout.proofs.Edges.{parent-among, parent-unentered, parent-only, left-of-among, left-found}
 use Rattle.finite.proofs.Laws.{test-ext}
 use Rattle.layout.proofs.Spelling.{leaf-below}
+use Rattle.paths.proofs.Shape.{Shaped, well-formed-shaped}
 use Rattle.paths.proofs.Table.{hangs-parts}
 use Rattle.paths.proofs.Forests.{placing-cases, placing-length}
-use Rattle.configuring.proofs.Counting.{some-counted}
+use Rattle.finite.proofs.Counting.{some-counted}
 use Rattle.nodeset.specs.Set.{mem}
 use Rattle.nodeset.specs.declared.NodeSet.{NodeSet}
-use Rattle.sheet.specs.Judge.{Parents, InnerSet, innerIn}
+use Rattle.trees.proofs.Held.{tree-of, tables-parents, parent-here, no-parent, has-parent}
 use Rattle.configure.specs.Given.{GraphOf, Solved}
 use Rattle.configure.specs.Carried.{carried, Carrying}
 
 module _ (n : ℕ) (parents : List ℕ) (s : GraphOf n parents) where
+  pub shaped : Shaped (s .graph)
+  shaped = well-formed-shaped (s .tables .well-formed)
+
   pub few : n ≤ 128
-  few = omega (arith, s .tables .nodes, s .tables .well-formed .few-nodes)
-
-  pub parent-here : (v : ℕ) → v < n → getD parents v 0 ≡ parent (s .graph .tree) v
-  parent-here v h = s .tables .holds .parent-is v (omega (arith, few))
-
-  pub parentless : (v : ℕ) → v < n → getD parents v 0 ≡ none → entered (s .graph .tree) v ≡ false
-  parentless v h e =
-      by-bool (entered (s .graph .tree) v)
-      (λ (t : entered (s .graph .tree) v ≡ true).
-      let w = s .tables .holds .tree-within (parent (s .graph .tree) v) v (parent-among (s .graph .tree) v t) in
-      absurd (omega (arith, w .0, parent-here v h, e, s .tables .well-formed .few-nodes)))
-      (λ t. t)
-
-  pub with-parent : (v : ℕ) → v < n → (getD parents v 0 ≡ none → ⊥) → entered (s .graph .tree) v ≡ true
-  with-parent v h d =
-      by-bool (entered (s .graph .tree) v) (λ t. t) (λ t. absurd (d (parent-here v h ∙ parent-unentered (s .graph .tree) v t)))
-
-  pub parent-within : (v : ℕ) → v < n → (getD parents v 0 ≡ none → ⊥) → getD parents v 0 < n
-  parent-within v h d =
-      let w = s .tables .holds .tree-within (parent (s .graph .tree) v) v (parent-among (s .graph .tree) v (with-parent v h d)) in
-      omega (arith, w .0, parent-here v h, s .tables .nodes)
-
-  pub parents-given : Parents n parents
-  parents-given = record { few = few; long = s .tables .holds .parents-long; node-or-none = parent-within }
-
-  inner-held : (v : ℕ) → v < n → innerIn n parents v ≡ left (s .graph .tree) v
-  unfolding innerIn
-  inner-held v h =
-      let t : List Edge = s .graph .tree in
-      test-ext (any n (λ c. eqb (getD parents c 0) v)) (left t v)
-      (λ e.
-      let r = any-found n (λ c. eqb (getD parents c 0) v) e in
-      let is : getD parents (r .0) 0 ≡ v = eqb-true (getD parents (r .0) 0) v (r .2) in
-      let up : parent t (r .0) ≡ v = sym (parent-here (r .0) (r .1)) ∙ is in
-      left-of-among t v (r .0) (rw up at (parent-among t (r .0) (with-parent (r .0) (r .1) (λ d. omega (arith, few, is, d))))))
-      (λ e.
-      let r = left-found t v e in
-      let b = s .tables .holds .tree-within v (r .0) (r .1) in
-      let c : r .0 < n = omega (arith, b .1, s .tables .nodes) in
-      any-at n (λ c. eqb (getD parents c 0) v) (r .0) c
-      (eq-eqb (getD parents (r .0) 0) v (parent-here (r .0) c ∙ sym (parent-only t v (r .0) (s .tables .holds .one-parent) (r .1)))))
-
-  -- a leaf is a node that is not inner
-  pub leaf-held : (inner : NodeSet) → InnerSet n parents inner → (v : ℕ) → v < n → leaf (s .graph) v ≡ not (mem inner v)
-  unfolding leaf
-  leaf-held inner is v h =
-      let b : v < s .graph .nodes = omega (arith, h, s .tables .nodes) in
-      rw (lt-ltb v (s .graph .nodes) b, is v (omega (arith, few)), inner-held v h)
+  few = tables-parents (s .tables) .few
 
 module _ (n : ℕ) (parents p : List ℕ) (s : Solved n parents p) where
   pub solved-length : length p ≡ n
@@ -83,11 +39,11 @@ module _ (n : ℕ) (parents p : List ℕ) (s : Solved n parents p) where
 
   pub up-parent : (v : ℕ) → v < n → (getD parents v 0 ≡ none → ⊥) → getD parents v 0 ≡ up (s .sheet .graph) p v
   unfolding up
-  up-parent v h d = rw (with-parent n parents (s .sheet) v h d) (parent-here n parents (s .sheet) v h)
+  up-parent v h d = rw (has-parent (shaped n parents (s .sheet)) (tree-of (s .sheet .tables)) v h d) (parent-here (shaped n parents (s .sheet)) (tree-of (s .sheet .tables)) v h)
 
   pub up-hung : (v : ℕ) → v < n → getD parents v 0 ≡ none → at p v ≡ up (s .sheet .graph) p v
   unfolding up
-  up-hung v h e = rw (parentless n parents (s .sheet) v h e)
+  up-hung v h e = rw (no-parent (shaped n parents (s .sheet)) (tree-of (s .sheet .tables)) v h e)
 
   -- a node that hangs does so under a leaf
   carried-hangs : (v : ℕ) → v < n → (at p v ≡ none → ⊥) → hangs (s .sheet .graph) p (at p v) v ≡ true
@@ -107,7 +63,7 @@ module _ (n : ℕ) (parents p : List ℕ) (s : Solved n parents p) where
       rw (← e) (hung-within v h (λ i. d (sym e ∙ i))))
       (λ (t : eqb (getD parents v 0) none ≡ false).
       let i = eqb-false (getD parents v 0) none t in
-      rw (← (up-parent v h i)) (parent-within n parents (s .sheet) v h i))
+      rw (← (up-parent v h i)) (tables-parents (s .sheet .tables) .node-or-none v h i))
 
   -- under a node hangs what the bytes say
   pub hangs-is : (l v : ℕ) → l < 128 → v < n → hangs (s .sheet .graph) p l v ≡ carried p l v

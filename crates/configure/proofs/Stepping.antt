@@ -20,7 +20,7 @@ use Rattle.finite.proofs.Laws.{not-holding}
 use Rattle.layout.proofs.Spelling.{root-below}
 use Rattle.paths.proofs.Table.{hangs-parts}
 use Rattle.paths.proofs.Shape.{Shaped, well-formed-shaped}
-use Rattle.configuring.proofs.Counting.{length-entries, entry-at}
+use Rattle.finite.proofs.Counting.{length-entries, entry-at}
 use Rattle.configuring.proofs.Shifting.{Problem, staying-hangs, shifted-solved}
 use Rattle.configuring.proofs.Ending.{pairsBelow, pairs-bound, pairs-grow}
 use Rattle.finite.proofs.Bounds.{least-ext}

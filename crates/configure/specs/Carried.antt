@@ -13,10 +13,6 @@ use Rattle.nodeset.specs.declared.NodeSet.{NodeSet}
 abbrev pub carried : List ℕ → ℕ → ℕ → Bool
 carried p l v = eqb (getD p v 0) l
 
--- the set of a byte's leaf, empty for a byte that is no node
-abbrev pub LeafSet : ℕ → NodeSet → Type 0
-LeafSet leaf r = (l : ℕ) → l < 128 → mem r l ≡ eqb leaf l
-
 -- the leaves that carry k roots or more of the first n
 abbrev pub Carrying : ℕ → ℕ → List ℕ → NodeSet → Type 0
 Carrying k n p r = (l : ℕ) → l < 128 → mem r l ≡ leb k (count n (carried p l))

@@ -2,6 +2,7 @@
 use nodeset::NodeSet;
 use sheet::NONE;
 use sheet::judge::inner_nodes;
+use trees::own;
 ghost use mathlib.Core.Path.{_≡_};
 ghost use mathlib.Core.Bool.{true, cond};
 ghost use Prim.Native.Nat.{_≤_, _<_};
@@ -9,22 +10,12 @@ ghost use lib.Dec.{eqb};
 ghost use lib.ListN.{length, take};
 ghost use Rattle.finite.specs.Below.{any, least};
 ghost use Rattle.nodeset.specs.Set.{mem};
-ghost use Rattle.graph.specs.Graph.{own, leafOf};
+ghost use Rattle.graph.specs.Graph.{leafOf};
 ghost use Rattle.graph.specs.Rule1.{up, depth, lowestLeaf, Rule1};
 ghost use Rattle.sheet.specs.Judge.{InnerSet};
 ghost use Rattle.configure.specs.Given.{GraphOf, Solved};
-ghost use Rattle.configure.specs.Carried.{carried, LeafSet, Carrying, better, Best, Moved};
+ghost use Rattle.configure.specs.Carried.{carried, Carrying, better, Best, Moved};
 ghost use Rattle.configure.specs.Step.{Stepped, Configured};
-
-fn leaf_set(leaf: u8) -> NodeSet
-    ensures { λ r. ⌜ LeafSet leaf r ⌝ }
-{
-    if leaf < 128 {
-        NodeSet::only(leaf as usize)
-    } else {
-        NodeSet::empty()
-    }
-}
 
 // The leaves that carry several roots.
 fn several(p: &[u8], n: usize) -> NodeSet
@@ -34,7 +25,7 @@ fn several(p: &[u8], n: usize) -> NodeSet
     let mut once = NodeSet::empty();
     let mut twice = NodeSet::empty();
     for v in 0..n {
-        let leaf = leaf_set(p[v]);
+        let leaf = NodeSet::of_byte(p[v]);
         twice = once.intersection(leaf).union(twice);
         once = leaf.union(once);
     }
@@ -116,24 +107,6 @@ fn lowest_root(p: &[u8], n: usize, leaf: u8) -> usize
     n
 }
 
-// The root of v's fragment.
-fn climb(parent: &[u8], n: usize, v: usize) -> usize
-    requires { ⌜ GraphOf n (now parent) × (v < n) ⌝ }
-    ensures { λ r. ⌜ ((s : GraphOf n (now (parent .entry))) → r ≡ own (s .graph) v) ⌝ }
-{
-    let mut at = v;
-    let mut left = n;
-    while 0 < left {
-        let over = parent[at];
-        if over == NONE {
-            return at;
-        }
-        at = over as usize;
-        left -= 1;
-    }
-    at
-}
-
 fn is_leaf_of(parent: &[u8], n: usize, inner: NodeSet, root: usize, v: usize) -> bool
     requires { ⌜ GraphOf n (now parent) × InnerSet n (now parent) inner × (v < n) ⌝ }
     ensures { λ r. ⌜ ((s : GraphOf n (now (parent .entry))) → r ≡ leafOf (s .graph) root v) ⌝ }
@@ -141,7 +114,7 @@ fn is_leaf_of(parent: &[u8], n: usize, inner: NodeSet, root: usize, v: usize) ->
     if inner.has(v) {
         return false;
     }
-    climb(parent, n, v) == root
+    own(parent, n, v) == root
 }
 
 fn lowest_leaf(parent: &[u8], n: usize, inner: NodeSet, root: usize) -> usize

@@ -13,13 +13,13 @@ use Rattle.finite.proofs.Laws.{by-bool, any-false, count-le}
 use Rattle.graph.specs.Graph.{Graph, entered, left, root, leaf, parent, top, own, leafOf}
 use Rattle.graph.specs.Placing.{hangs, Below, Contains, SolvedForm, Configuration}
 use Rattle.graph.specs.Rule1.{problem, up, rise, depth, shallowest, problemLeaf, staying, lowestLeaf, shifted, Rule1, done, again}
-use Rattle.layout.proofs.Edges.{sum}
+use Rattle.layout.proofs.Edges.{sum-grows, sum-bound, sum}
 use Rattle.finite.proofs.Laws.{not-holding}
 use Rattle.layout.proofs.Spelling.{leaf-below, root-below}
 use Rattle.paths.proofs.Shape.{Shaped}
 use Rattle.paths.proofs.Table.{under, under-iff, hangs-parts, below-within}
 use Rattle.finite.proofs.Bounds.{count-single}
-use Rattle.configuring.proofs.Counting.{count-mono, count-grows, sum-grows, sum-bound}
+use Rattle.finite.proofs.Counting.{count-mono, count-grows}
 use Rattle.configuring.proofs.Shifting.{Problem, target, shifted-solved, shifted-contains, shifted-grows}
 
 -- how many pairs of nodes there are of which the one lies below the other

@@ -1,3 +1,2 @@
-pub mod Counting
 pub mod Shifting
 pub mod Ending

@@ -23,7 +23,7 @@ use Rattle.paths.proofs.Closure.{path-trans, path-lift}
 use Rattle.paths.proofs.Table.{hangs-parts, hangs-intro}
 use Rattle.paths.proofs.Fragments.{leafOf-parts, root-leaf, leaf-below-own}
 use Rattle.paths.proofs.Forests.{AtOrAbove, above-parent, chain, asymmetric, irreflexive-path, tree-below, hung-below, acyclic-forest, placing-cases}
-use Rattle.configuring.proofs.Counting.{another, some-counted, least-found, smallest, length-entries, entry-at}
+use Rattle.finite.proofs.Counting.{another, some-counted, least-found, smallest, length-entries, entry-at}
 
 -- the leaf and the roots that the step names
 

@@ -21,7 +21,7 @@ ghost use Rattle.counter.specs.Checks.{PlacingCall};
 // The bytes that a drawing is lent at least.
 const DRAWING: usize = 1024;
 
-pub fn count_of(parent: &[u8], heads_low: &[u64], heads_high: &[u64], n: usize) -> Counted
+pub(crate) fn count_of(parent: &[u8], heads_low: &[u64], heads_high: &[u64], n: usize) -> Counted
     requires { ⌜ Given n (now parent) (now «heads_low») (now «heads_high») ⌝ }
     ensures { λ r. ⌜
         ((s : Given n (now (parent .entry)) (now («heads_low» .entry)) (now («heads_high» .entry))) →
@@ -46,7 +46,7 @@ pub fn count_of(parent: &[u8], heads_low: &[u64], heads_high: &[u64], n: usize) 
     Counted::Readings(count(parent, &owner, n, begun.leaves, begun.roots, &low, &high))
 }
 
-pub fn reading_of(
+pub(crate) fn reading_of(
     parent: &[u8],
     heads_low: &[u64],
     heads_high: &[u64],
@@ -111,7 +111,7 @@ pub fn reading_of(
     }
 }
 
-pub fn configuration_of(
+pub(crate) fn configuration_of(
     parent: &[u8],
     heads_low: &[u64],
     heads_high: &[u64],
@@ -132,7 +132,7 @@ pub fn configuration_of(
     answer
 }
 
-pub fn drawing_of(
+pub(crate) fn drawing_of(
     parent: &[u8],
     heads_low: &[u64],
     heads_high: &[u64],
@@ -187,7 +187,7 @@ pub fn drawing_of(
     Drawn::Refused(Refusal::NoSuchReading)
 }
 
-pub fn checked_placing(
+pub(crate) fn checked_placing(
     parent: &[u8],
     heads_low: &[u64],
     heads_high: &[u64],

@@ -1,28 +1,30 @@
 -- The tests on the tables are the definition. A cycle's nodes are ends of edges, so below n, and being all different they
 -- are n at most. Two edges of a cycle whose nodes are all different join the same two nodes only where there are two
 -- nodes. A dominance edge has one end that is a leaf, the one it starts from, for the other is a root.
-use Prim.Native.Nat.{ℕ, zero, suc, _+_, _≤_, _<_, _%_}
-use mathlib.Core.Path.{_≡_, sym, ap, _∙_}
+use Prim.Native.Nat.{ℕ, _≤_, _<_, _%_}
+use mathlib.Core.Path.{_≡_, sym, _∙_}
 use mathlib.Core.List.{List}
 use mathlib.Core.Bool.{Bool, true, false, not, _&&_, _||_, true≢false, false≢true}
 use mathlib.Core.Logic.{inl, inr, ⊎-elim}
 use native.Mathlib.Omega.{arith}
 use lib.Dec.{eqb, ltb, leb}
 use lib.ListN.{length, getD}
-use borrow.Author.Tests.{eqb-true, eqb-false, eq-eqb, ne-eqb, ltb-true, ltb-false, le-leb, leb-true, leb-false, not-true}
+use borrow.Author.Tests.{eqb-true, eqb-false, eq-eqb, ne-eqb, ltb-true, le-leb, leb-true, leb-false, not-true}
 use Rattle.finite.specs.Below.{any, all, count}
-use Rattle.finite.proofs.Laws.{by-bool, or-right, or-cases, and-both, and-intro, any-at, any-found, any-none, any-false, all-at, all-every, count-none}
+use Rattle.finite.proofs.Laws.{by-bool, or-right, and-both, and-intro, any-at, any-found, any-none, any-false, all-at, all-every}
 use Rattle.graph.specs.Graph.{Graph, among, entered, leaf, parent, DominanceEdge}
 use Rattle.graph.specs.Cycle.{pairs, node, kind, next, joined, sameEdge, cycle, dominanceAt, hypernormal, hypernormalCycle}
 use Rattle.layout.proofs.Edges.{parent-among, parent-only, parent-unentered}
 use Rattle.finite.proofs.Laws.{not-holding, test-ext}
+use Rattle.finite.proofs.Counting.{count-one, all-apart}
 use Rattle.layout.proofs.Pigeonhole.{pigeonhole}
 use Rattle.paths.proofs.Shape.{well-formed-shaped}
 use Rattle.paths.proofs.Fragments.{leaf-not-root}
-use Rattle.excluding.proofs.Cycles.{SameEdge, same-edge, Joined, joined-cases, CycleFacts, cycle-facts, DominanceAt, hypernormal-leaf}
+use Rattle.excluding.proofs.Cycles.{SameEdge, same-edge, Joined, joined-cases, CycleFacts, cycle-facts, DominanceAt, dominance-at, hypernormal-leaf}
 use Rattle.rows.specs.Rows.{inRow, Tables}
-use Rattle.cycles.specs.Check.{NodesBelow, sized, fresh, nodesDiffer, treeJoins, dominanceJoins, joinedIn, allJoined, twoKinds, startsAt, spare, leavesDiffer, checkIn}
-use Rattle.cycles.proofs.Places.{next-inner, next-last, place-cases, next-below}
+use Rattle.trees.specs.Trees.{tiedIn}
+use Rattle.cycles.specs.Check.{NodesBelow, sized, fresh, nodesDiffer, dominanceJoins, joinedIn, allJoined, twoKinds, startsAt, spare, leavesDiffer, checkIn}
+use Rattle.excluding.proofs.Places.{next-inner, next-last, next-below, edges-differ}
 use Rattle.cycles.proofs.Scans.{seenBefore, usedBefore, node-new, leaf-first, leaf-second}
 
 -- the tests taken apart
@@ -47,59 +49,12 @@ module _ (n : ℕ) (bs : List ℕ) (h : nodesDiffer n bs ≡ true) where
   different : (i j : ℕ) → i < pairs bs → j < i → node bs i ≡ node bs j → ⊥
   different i j l d = eqb-false (node bs i) (node bs j) (any-false i (λ j. eqb (node bs i) (node bs j)) (fresh-at i l .1) j d)
 
-  -- places of one node are one place
-  one-place : (i j : ℕ) → i < pairs bs → j < pairs bs → node bs i ≡ node bs j → i ≡ j
-  one-place i j hi hj e =
-      by-bool (ltb j i)
-      (λ (t : ltb j i ≡ true). absurd (different i j hi (ltb-true j i t) e))
-      (λ (t : ltb j i ≡ false).
-      by-bool (ltb i j)
-      (λ (u : ltb i j ≡ true). absurd (different j i hj (ltb-true i j u) (sym e)))
-      (λ (u : ltb i j ≡ false). omega (arith, ltb-false j i t, ltb-false i j u)))
-
   -- one edge at two places: only the two edges of two nodes join the same ends, and those differ in kind
   edges-apart : twoKinds bs ≡ true → (i j : ℕ) → i < pairs bs → j < i → SameEdge bs i j → ⊥
   unfolding twoKinds
-  edges-apart k i j l d e =
-      let ahead : next bs j ≡ node bs (j + 1) = next-inner bs j (omega arith) in
-      ⊎-elim
-      (λ (q : (node bs i ≡ node bs j) × (next bs i ≡ next bs j)). different i j l d (q .0))
-      (λ (q : (node bs i ≡ next bs j) × (next bs i ≡ node bs j)).
-      let a : i ≡ j + 1 = one-place i (j + 1) l (omega arith) (q .0 ∙ ahead) in
-      ⊎-elim
-      (λ (last : i + 1 ≡ pairs bs).
-      let b : 0 ≡ j = one-place 0 j (omega arith) (omega arith) (sym (next-last bs i last) ∙ q .1) in
-      let one : 1 ≡ i = omega arith in
-      let two : pairs bs ≡ 2 = omega arith in
-      let same : kind bs 0 ≡ kind bs 1 = ap (kind bs) b ∙ sym (e .0) ∙ ap (kind bs) (sym one) in
-      false≢true (rw (eq-eqb (pairs bs) 2 two, eq-eqb (kind bs 0) (kind bs 1) same) at k))
-      (λ (inner : i + 1 < pairs bs).
-      different (i + 1) j inner (omega arith) (sym (next-inner bs i inner) ∙ q .1))
-      (place-cases bs i l))
-      (e .1)
-
--- two different places
-
--- no test holds at two places below n
-all-apart : (n : ℕ) (r : ℕ → ℕ → Bool) → ((i j : ℕ) → i < n → j < i → r i j ≡ true → ⊥) → all n (λ i. all i (λ j. not (r i j))) ≡ true
-all-apart n r f =
-    all-every n (λ i. all i (λ j. not (r i j))) (λ i h.
-    all-every i (λ j. not (r i j)) (λ j k.
-    let e : r i j ≡ false = not-holding (r i j) (λ t. f i j h k t) in
-    rw e))
-
--- where no two have it, the count is one at most
-count-one : (n : ℕ) (p : ℕ → Bool) → ((i j : ℕ) → i < n → j < i → p i ≡ true → p j ≡ true → ⊥) → count n p ≤ 1
-unfolding count
-count-one zero p f = omega arith
-count-one (suc n) p f =
-    by-bool (p n)
-    (λ (t : p n ≡ true).
-    let zeros : count n p ≡ 0 = count-none n p (λ k h. not-holding (p k) (λ u. f n k (omega arith) h t u)) in
-    rw (t, zeros) (omega arith))
-    (λ (t : p n ≡ false).
-    let ih : count n p ≤ 1 = count-one n p (λ i j h. f i j (omega arith)) in
-    rw t (omega arith))
+  edges-apart k =
+      edges-differ bs different (λ two same.
+      false≢true (rw (eq-eqb (pairs bs) 2 two, eq-eqb (kind bs 0) (kind bs 1) (sym same)) at k))
 
 -- the definition taken apart, where no fact of `cycle-facts` says it
 
@@ -113,17 +68,6 @@ cycle-parts g bs c =
     let edges : Bool = all (pairs bs) (λ i. all i (λ j. not (sameEdge bs i j))) in
     let rest = and-both (even && two && nodes) joints (and-both (even && two && nodes && joints) edges c .0) in
     (and-both even two (and-both (even && two) nodes (rest .0) .0) .0, rest .1)
-
-dominance-is : (bs : List ℕ) (x i : ℕ) → dominanceAt bs x i ≡ true → DominanceAt bs x i
-unfolding dominanceAt
-dominance-is bs x i h =
-    let b = and-both (eqb (kind bs i) 3) (eqb (node bs i) x || eqb (next bs i) x) h in (
-      eqb-true (kind bs i) 3 (b .0),
-      ⊎-elim
-          (λ q. inl (eqb-true (node bs i) x q))
-          (λ q. inr (eqb-true (next bs i) x q))
-          (or-cases (eqb (node bs i) x) (eqb (next bs i) x) (b .1)),
-    )
 
 starts-kind : (low high bs : List ℕ) (i x : ℕ) → startsAt low high bs i x ≡ true → kind bs i ≡ 3
 unfolding startsAt
@@ -147,7 +91,7 @@ module _ (g : Graph) (n : ℕ) (parents low high : List ℕ) (edges : ℕ) (t : 
       (λ e. eq-eqb (getD parents v 0) u (is ∙ sym (parent-only (g .tree) u v (t .holds .one-parent) e)))
 
   joined-held : (k u v : ℕ) → u < g .nodes → v < g .nodes → joinedIn parents low high k u v ≡ joined g k u v
-  unfolding joinedIn joined treeJoins dominanceJoins
+  unfolding joinedIn joined tiedIn dominanceJoins
   joined-held k u v hu hv = rw (tree-held u v hu hv, tree-held v u hv hu, t .holds .heads-are u v, t .holds .heads-are v u)
 
   -- what is joined are nodes
@@ -305,7 +249,7 @@ module _ (g : Graph) (n : ℕ) (parents low high : List ℕ) (edges : ℕ) (t : 
           rw (eq-eqb (length bs % 2) 0 (two .0), le-leb 2 (pairs bs) (two .1), nodes, joints, apart)
 
       starts-at : (x i : ℕ) → leaf g x ≡ true → i < pairs bs → dominanceAt bs x i ≡ true → startsAt low high bs i x ≡ true
-      starts-at x i l h e = leaf-starts bs i (joined-cases g (kind bs i) (node bs i) (next bs i) (is-joined i h)) x l (dominance-is bs x i e)
+      starts-at x i l h e = leaf-starts bs i (joined-cases g (kind bs i) (node bs i) (next bs i) (is-joined i h)) x l (dominance-at bs x i .0 e)
 
       one-edge-each : (x : ℕ) → leaf g x ≡ true → x < 128 → (i j : ℕ) → i < pairs bs → j < i → dominanceAt bs x i ≡ true → dominanceAt bs x j ≡ true → ⊥
       unfolding leavesDiffer spare

@@ -6,12 +6,13 @@ use mathlib.Core.Path.{_≡_}
 use mathlib.Core.List.{List}
 use mathlib.Core.Bool.{Bool, cond, not, _&&_, _||_}
 use lib.Dec.{eqb, ltb, leb}
-use lib.ListN.{length, getD}
+use lib.ListN.{length}
 use Rattle.finite.specs.Below.{any, all}
 use Rattle.nodeset.specs.Set.{mem}
 use Rattle.nodeset.specs.declared.NodeSet.{NodeSet}
 use Rattle.graph.specs.Cycle.{pairs, node, kind, next}
 use Rattle.rows.specs.Rows.{inRow}
+use Rattle.trees.specs.Trees.{tiedIn}
 
 abbrev pub NodesBelow : ℕ → List ℕ → Type 0
 NodesBelow n bs = (i : ℕ) → i < pairs bs → node bs i < n
@@ -28,15 +29,12 @@ unfoldable pub nodesDiffer : ℕ → List ℕ → Bool
 unfolding fresh
 nodesDiffer n bs = all (pairs bs) (fresh n bs)
 
-unfoldable pub treeJoins : List ℕ → ℕ → ℕ → Bool
-treeJoins parents u v = eqb (getD parents v 0) u || eqb (getD parents u 0) v
-
 unfoldable pub dominanceJoins : List ℕ → List ℕ → ℕ → ℕ → Bool
 dominanceJoins low high u v = inRow low high u v || inRow low high v u
 
 unfoldable pub joinedIn : List ℕ → List ℕ → List ℕ → ℕ → ℕ → ℕ → Bool
-unfolding treeJoins dominanceJoins
-joinedIn parents low high k u v = cond (eqb k 2) (treeJoins parents u v) (eqb k 3 && dominanceJoins low high u v)
+unfolding tiedIn dominanceJoins
+joinedIn parents low high k u v = cond (eqb k 2) (tiedIn parents u v) (eqb k 3 && dominanceJoins low high u v)
 
 unfoldable pub allJoined : List ℕ → List ℕ → List ℕ → List ℕ → Bool
 unfolding joinedIn

@@ -3,12 +3,12 @@ mod edge;
 mod place;
 
 use crate::edge::DOMINANCE;
-use crate::edge::dominance_edge;
 use crate::edge::joined;
 use crate::place::kind_at;
 use crate::place::next_at;
 use crate::place::node_at;
 use nodeset::NodeSet;
+use rows::in_row;
 ghost use mathlib.Core.Path.{_≡_};
 ghost use Prim.Native.Nat.{ℕ, _≤_, _<_};
 ghost use lib.ListN.{length};
@@ -96,7 +96,7 @@ fn leaf_at(low: &[u64], high: &[u64], cycle: &[u8], i: usize) -> NodeSet
     }
     let node = node_at(cycle, i);
     let next = next_at(cycle, i);
-    if dominance_edge(low, high, node, next) {
+    if in_row(low, high, node, next) {
         return NodeSet::only(node);
     }
     NodeSet::only(next)

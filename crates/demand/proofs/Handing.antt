@@ -19,7 +19,7 @@ use Rattle.listing.proofs.Readings.{listing-unique, listing-exists, unsolvable-
 use Rattle.counter.specs.Calls.{Unsolvable, reach, ReadingCall}
 use Rattle.counter.specs.declared.Placed.{Placed}
 use Rattle.demand.specs.Demand.{Call, Chain, unlessRefused, handedOut, lentEnough}
-use Rattle.demand.proofs.Refusing.{placing-length}
+use Rattle.paths.proofs.Forests.{placing-length}
 
 -- the readings that k calls lent enough hand out from the place m on
 abbrev next : List (List ℕ) → ℕ → ℕ → List (List ℕ)

@@ -3,20 +3,16 @@
 use Prim.Native.Nat.{ℕ, _*_, _≤_, _<_}
 use mathlib.Core.Path.{_≡_, refl, sym, subst}
 use mathlib.Core.List.{List}
-use mathlib.Core.Bool.{true}
 use mathlib.Core.Logic.{_↔_}
 use native.Mathlib.Omega.{arith}
-use lib.Dec.{eqb}
 use lib.ListN.{length, drop}
 use lib.Seq.{take-at}
-use borrow.Author.Tests.{eqb-true}
-use Rattle.finite.proofs.Laws.{and-both}
 use Rattle.graph.specs.Graph.{Graph}
-use Rattle.graph.specs.Placing.{placing, Configuration, Solvable}
+use Rattle.graph.specs.Placing.{Configuration, Solvable}
 use Rattle.graph.specs.Order.{Listing, entry}
 use Rattle.graph.specs.Rule1.{HandedOut}
 use Rattle.paths.proofs.Shape.{Shaped}
-use Rattle.paths.proofs.Forests.{hanging-solved}
+use Rattle.paths.proofs.Forests.{hanging-solved, placing-length}
 use Rattle.listing.proofs.Readings.{solvable-reading}
 use Rattle.configuring.proofs.Ending.{rule1-configuration}
 use Rattle.counter.specs.Calls.{Unsolvable, countNumber, placedNumber, drawnNumber, Counts, ReadingCall, ConfigurationCall, DrawingCall}
@@ -43,10 +39,6 @@ refusing e u = (λ _. no-hanging u, λ _. e)
 
 reading-there : {g : Graph} {ps : List (List ℕ)} {k : ℕ} → (k ≡ asNoReading → ⊥) → Listing g ps → 0 < length ps → (k ≡ asNoReading) ↔ NoHanging g
 reading-there d l h = (λ e. absurd (d e), λ n. absurd (listed-hangs l h n))
-
-pub placing-length : (g : Graph) (p : List ℕ) → placing g p ≡ true → length p ≡ g .nodes
-unfolding placing
-placing-length g p h = eqb-true (length p) (g .nodes) (and-both (eqb (length p) (g .nodes)) _ h .0)
 
 pub count-refuses : {g : Graph} {r : Counted} → Counts g r → (countNumber r ≡ asNoReading) ↔ NoHanging g
 count-refuses (Counts.none u) = refusing refl u

@@ -10,15 +10,17 @@ use lib.Dec.{ltb}
 use lib.ListN.{length, getD, take, length-take}
 use lib.Seq.{getD-take}
 use borrow.Author.Tests.{lt-ltb}
-use Rattle.finite.proofs.Laws.{by-bool, and-both}
-use Rattle.graph.specs.Graph.{Graph, TreeEdge, DominanceEdge, Descent, Path, one, more, among, entered, parent, none}
+use Rattle.finite.proofs.Laws.{and-both}
+use Rattle.graph.specs.Graph.{Graph, TreeEdge, DominanceEdge, Descent, Path, one, more, among, parent, none}
 use Rattle.graph.specs.Placing.{placing, at, hangs, Below}
-use Rattle.layout.proofs.Edges.{parent-among, parent-only, parent-unentered}
+use Rattle.layout.proofs.Edges.{parent-among, parent-only}
 use Rattle.layout.proofs.Spelling.{leaf-below, root-below}
+use Rattle.paths.proofs.Shape.{Shaped, well-formed-shaped}
 use Rattle.paths.proofs.Table.{or-holds, hangs-parts}
 use Rattle.paths.proofs.Forests.{placing-cases, placing-length}
 use Rattle.sheet.specs.Judge.{Parents}
 use Rattle.rows.specs.Rows.{inRow, Rows, Tables}
+use Rattle.trees.proofs.Held.{tree-of, tables-parents, parent-here, has-parent}
 use Rattle.descent.specs.Closing.{Links, linkIn, headIn, Closed, Adds}
 use Rattle.descent.proofs.Laws.{rows-map, path-iff}
 use Rattle.descent.proofs.Edges.{differ, link-parts, link-intro, link-from}
@@ -46,38 +48,21 @@ cleared-closed l h blank =
     }
 
 module _ {n : ℕ} {parents lows highs : List ℕ} {edges : ℕ} (g : Graph) (t : Tables g n parents lows highs edges) where
+  shaped : Shaped g
+  shaped = well-formed-shaped (t .well-formed)
+
   few : n ≤ 128
-  few = let a = t .nodes in let b = t .well-formed .few-nodes in omega arith
+  few = tables-parents t .few
 
   parent-node : (v : ℕ) → v < n → getD parents v 0 ≡ parent (g .tree) v
-  parent-node v h = let f = few in t .holds .parent-is v (omega arith)
-
-  entered-node : (v : ℕ) → entered (g .tree) v ≡ true → parent (g .tree) v < n
-  entered-node v e =
-      let same = t .nodes in
-      let b = t .well-formed .tree-within (parent (g .tree) v) v (parent-among (g .tree) v e) in
-      omega (arith, b .0)
-
-  has-parent : (v : ℕ) → (parent (g .tree) v ≡ none → ⊥) → entered (g .tree) v ≡ true
-  has-parent v h =
-      by-bool (entered (g .tree) v)
-      (λ e. e)
-      (λ (e : entered (g .tree) v ≡ false). absurd (h (parent-unentered (g .tree) v e)))
-
-  pub tables-parents : Parents n parents
-  tables-parents =
-      record {
-        few = few;
-        long = t .holds .parents-long;
-        node-or-none = λ v h other. rw (parent-node v h) (entered-node v (has-parent v (λ e. other (parent-node v h ∙ e))));
-      }
+  parent-node = parent-here shaped (tree-of t)
 
   tree-link : (u v : ℕ) → (linkIn n parents u v ≡ true) ↔ TreeEdge g u v
   tree-link u v = (
     λ h.
         let x = link-parts n parents u v h in
         let is = parent-node v (x .0) in
-        let there : among (g .tree) (parent (g .tree) v) v ≡ true = parent-among (g .tree) v (has-parent v (λ q. x .1 (is ∙ q))) in
+        let there : among (g .tree) (parent (g .tree) v) v ≡ true = parent-among (g .tree) v (has-parent shaped (tree-of t) v (x .0) (x .1)) in
         rw (x .2, is) there,
     λ h.
         let same = t .nodes in
@@ -103,7 +88,7 @@ module _ {n : ℕ} {parents lows highs : List ℕ} {edges : ℕ} (g : Graph) (t 
   graph-built start links heads =
       rows-map
       (path-iff (λ u v. or-holds (linkIn n parents u v) (headIn n lows highs u v) (tree-link u v) (dominance-head u v)))
-      (heads .closed (linkIn n parents) (link-from n parents (parents-links tables-parents) n (omega arith)) (links .closed (λ u v. false) (λ u v e. absurd (differ e)) start))
+      (heads .closed (linkIn n parents) (link-from n parents (parents-links (tables-parents t)) n (omega arith)) (links .closed (λ u v. false) (λ u v e. absurd (differ e)) start))
 
   module _ (bytes : List ℕ) (is-placing : placing g (take n bytes) ≡ true) where
     byte : (v : ℕ) → v < n → at (take n bytes) v ≡ getD bytes v 0
@@ -150,4 +135,4 @@ module _ {n : ℕ} {parents lows highs : List ℕ} {edges : ℕ} (g : Graph) (t 
     placing-built start trees hangings =
         rows-map
         (path-iff (λ u v. or-holds (linkIn n parents u v) (linkIn n bytes u v) (tree-link u v) (hanging-link u v)))
-        (hangings .closed (linkIn n parents) (link-from n parents (parents-links tables-parents) n (omega arith)) (trees .closed (λ u v. false) (λ u v e. absurd (differ e)) start))
+        (hangings .closed (linkIn n parents) (link-from n parents (parents-links (tables-parents t)) n (omega arith)) (trees .closed (λ u v. false) (λ u v e. absurd (differ e)) start))

@@ -11,10 +11,6 @@ use Rattle.nodeset.specs.declared.NodeSet.{NodeSet}
 use Rattle.graph.specs.Graph.{Path, none}
 use Rattle.rows.specs.Rows.{inRow, Rows}
 
--- both lists have an entry for each node
-abbrev pub Long : List ℕ → List ℕ → Type 0
-Long low high = (length low ≡ 128) × (length high ≡ 128)
-
 -- Row x was joined with `more` where x is a or has a; every other row is as it was.
 pub record RowExtended (a x : ℕ) (more : NodeSet) (low high low′ high′ : List ℕ) : Type 0 where
   pub low-long : length low′ ≡ length low

@@ -1,6 +1,8 @@
 // The closure of a graph's or a placing's edges as rows: of each node the set of nodes under it, in two lent slices of
 // 128 words. An edge is added to closed rows in one pass over them.
 use nodeset::NodeSet;
+use rows::in_row;
+use rows::row;
 use sheet::NONE;
 ghost use mathlib.Core.Path.{_≡_};
 ghost use mathlib.Core.Bool.{true, false};
@@ -8,31 +10,11 @@ ghost use mathlib.Core.List.{List};
 ghost use Prim.Native.Nat.{ℕ, _≤_, _<_};
 ghost use lib.ListN.{take};
 ghost use Rattle.finite.specs.Below.{any};
-ghost use Rattle.nodeset.specs.Set.{mem};
 ghost use Rattle.graph.specs.Graph.{Graph, Descent, none};
 ghost use Rattle.graph.specs.Placing.{placing as placingOf, Below};
 ghost use Rattle.sheet.specs.Judge.{Parents};
-ghost use Rattle.rows.specs.Rows.{inRow, Rows, Tables};
-ghost use Rattle.descent.specs.Closing.{Long, Extended, RowExtended, Links, linkTo, linkIn, headOf, headIn, Adds};
-
-// What lies under v.
-pub fn under(low: &[u64], high: &[u64], v: usize) -> NodeSet
-    requires { ⌜ Long (now low) (now high) × (v < 128) ⌝ }
-    ensures { λ r. ⌜ ((x : ℕ) → mem r x ≡ inRow (now (low .entry)) (now (high .entry)) v x) ⌝ }
-{
-    NodeSet {
-        low: low[v],
-        high: high[v],
-    }
-}
-
-// v lies under u.
-pub fn descends(low: &[u64], high: &[u64], u: usize, v: usize) -> bool
-    requires { ⌜ Long (now low) (now high) × (u < 128) × (v < 128) ⌝ }
-    ensures { λ r. ⌜ r ≡ inRow (now (low .entry)) (now (high .entry)) u v ⌝ }
-{
-    under(low, high, u).has(v)
-}
+ghost use Rattle.rows.specs.Rows.{Long, inRow, Rows, Tables};
+ghost use Rattle.descent.specs.Closing.{Extended, RowExtended, Links, linkTo, linkIn, headOf, headIn, Adds};
 
 // Some node below n lies under itself.
 pub fn cyclic(low: &[u64], high: &[u64], n: usize) -> bool
@@ -40,7 +22,7 @@ pub fn cyclic(low: &[u64], high: &[u64], n: usize) -> bool
     ensures { λ r. ⌜ r ≡ any n (λ u. inRow (now (low .entry)) (now (high .entry)) u u) ⌝ }
 {
     for u in 0..n {
-        if descends(low, high, u, u) {
+        if in_row(low, high, u, u) {
             return true;
         }
     }
@@ -52,9 +34,9 @@ fn extend(low: &mut [u64], high: &mut [u64], a: usize, x: usize, more: NodeSet)
     requires { ⌜ Long (now low) (now high) × (a < 128) × (x < 128) ⌝ }
     ensures { λ _. ⌜ RowExtended a x more (now (low .entry)) (now (high .entry)) (now (low .exit)) (now (high .exit)) ⌝ }
 {
-    let row = under(low, high, x);
-    if row.with(x).has(a) {
-        let joined = row.union(more);
+    let old = row(low, high, x);
+    if old.with(x).has(a) {
+        let joined = old.union(more);
         low[x] = joined.low;
         high[x] = joined.high;
     }
@@ -65,7 +47,7 @@ pub fn add_edge(low: &mut [u64], high: &mut [u64], n: usize, a: usize, r: usize)
     requires { ⌜ Long (now low) (now high) × (n ≤ 128) × (a < n) × (r < 128) ⌝ }
     ensures { λ _. ⌜ Extended n a r (now (low .entry)) (now (high .entry)) (now (low .exit)) (now (high .exit)) ⌝ }
 {
-    let more = under(low, high, r).with(r);
+    let more = row(low, high, r).with(r);
     for x in 0..n {
         extend(low, high, a, x, more);
     }
@@ -118,11 +100,7 @@ fn add_heads(heads_low: &[u64], heads_high: &[u64], n: usize, low: &mut [u64], h
     ensures { λ _. ⌜ Adds n (headIn n (now («heads_low» .entry)) (now («heads_high» .entry))) (now (low .entry)) (now (high .entry)) (now (low .exit)) (now (high .exit)) ⌝ }
 {
     for l in 0..n {
-        let row = NodeSet {
-            low: heads_low[l],
-            high: heads_high[l],
-        };
-        add_row(row, l, n, low, high);
+        add_row(row(heads_low, heads_high, l), l, n, low, high);
     }
 }
 

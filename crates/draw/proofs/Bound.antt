@@ -23,7 +23,7 @@ use Rattle.paths.proofs.Closure.{path-trans}
 use Rattle.paths.proofs.Table.{under, under-iff, or-holds, eqb-holds, hangs-parts}
 use Rattle.paths.proofs.Fragments.{leaf-below-own, leafOf-parts}
 use Rattle.paths.proofs.Forests.{AtOrAbove, Comparable, above-parent, chain, asymmetric, irreflexive-path, tree-below, hung-below, leaf-not-above-own, hangs-where-below}
-use Rattle.configuring.proofs.Counting.{count-grows}
+use Rattle.finite.proofs.Counting.{count-grows}
 use Rattle.draw.specs.Drawn.{run}
 use Rattle.draw.proofs.Texts.{number-length}
 use Rattle.draw.proofs.Runs.{leaf-run, fragment-run, drawing-run}

@@ -2,31 +2,28 @@
 use Prim.Native.Nat.{ℕ, zero, suc, _+_, _≤_, _<_}
 use mathlib.Core.Path.{_≡_, refl, sym, subst⁻¹, _∙_}
 use mathlib.Core.List.{List, [], _∷_}
-use mathlib.Core.Bool.{Bool, true, false, cond, not, _&&_}
+use mathlib.Core.Bool.{Bool, true, false, cond, _&&_}
 use mathlib.Core.Logic.{_⊎_, ⊎-elim}
 use native.Mathlib.Omega.{arith}
 use lib.Dec.{eqb}
 use lib.ListN.{length, getD, take, length-take}
 use lib.Seq.{getD-take, sets-eq}
 use borrow.Author.Tests.{eq-eqb, ne-eqb, eqb-true, lt-ltb}
-use Rattle.finite.specs.Below.{any}
-use Rattle.finite.proofs.Laws.{by-bool, and-both, not-not, any-at, any-found, any-ext, spread-ext}
-use Rattle.graph.specs.Graph.{Edge, Graph, entered, left, root, leaf, leafOf, own, parent, top, none, WellFormed}
+use Rattle.finite.proofs.Laws.{by-bool, and-both, any-ext, spread-ext}
+use Rattle.finite.specs.Stores.{Written}
+use Rattle.graph.specs.Graph.{Graph, left, root, leaf, leafOf, own, none}
 use Rattle.graph.specs.Placing.{at, hangs, SolvedForm}
 use Rattle.graph.specs.Drawing.{leafText, fragmentText, drawing}
-use Rattle.layout.proofs.Edges.{parent-among, parent-unentered, parent-only, left-of-among, left-found}
 use Rattle.finite.proofs.Laws.{test-ext}
 use Rattle.layout.proofs.Spelling.{leaf-below, root-below}
 use Rattle.paths.proofs.Shape.{Shaped, well-formed-shaped}
 use Rattle.paths.proofs.Table.{hangs-parts}
 use Rattle.paths.proofs.Fragments.{leafOf-parts}
 use Rattle.paths.proofs.Forests.{placing-cases, placing-length}
-use Rattle.fragments.specs.Owner.{topIn}
-use Rattle.sheet.specs.Turn.{Holds}
-use Rattle.sheet.specs.Judge.{Parents, innerIn}
-use Rattle.sheet.proofs.Turns.{parent-tells}
-use Rattle.sheet.proofs.Whole.{parents-held}
-use Rattle.draw.specs.Drawn.{run, homeIn, Homes, leafAt, hungAt, topAt, leafIn, fragmentIn, topsIn, Written, Drawable, Drawn}
+use Rattle.sheet.specs.Judge.{Parents}
+use Rattle.trees.specs.Trees.{TreeOf}
+use Rattle.trees.proofs.Held.{tree-of, tables-parents, parentless, inner-is, own-is}
+use Rattle.draw.specs.Drawn.{run, homeIn, Homes, leafAt, hungAt, topAt, leafIn, fragmentIn, topsIn, Drawable, Drawn}
 use Rattle.draw.proofs.Runs.{leaf-run, fragment-run, drawing-run}
 use Rattle.draw.proofs.Bound.{drawing-fits}
 
@@ -38,51 +35,15 @@ run-ext o b f h t u n same texts =
     rw (same x l, any-ext x t u (λ k m. same k (omega arith)))
     (by-bool (u x) (λ (e : u x ≡ true). rw (e, texts x e)) (λ (e : u x ≡ false). rw e)))
 
-module _ (g : Graph) (parents low high : List ℕ) (edges : ℕ) (w : WellFormed g) (holds : Holds (g .nodes) (g .tree) (g .dominance) parents low high edges) where
+module _ (g : Graph) (parents : List ℕ) (shaped : Shaped g) (tree : TreeOf g (g .nodes) parents) where
   few : g .nodes ≤ 128
-  few = w .few-nodes
-
-  parentless : (v : ℕ) → v < g .nodes → eqb (getD parents v 0) none ≡ not (entered (g .tree) v)
-  parentless v h =
-      rw (holds .parent-is v (omega (arith, few)), parent-tells (g .nodes) (g .tree) v few (holds .tree-within), not-not)
-
-  inner-held : (v : ℕ) → v < g .nodes → innerIn (g .nodes) parents v ≡ left (g .tree) v
-  unfolding innerIn
-  inner-held v h =
-      let n : ℕ = g .nodes in
-      let t : List Edge = g .tree in
-      let fits : n ≤ 128 = few in
-      test-ext (any n (λ c. eqb (getD parents c 0) v)) (left t v)
-      (λ e.
-      let r = any-found n (λ c. eqb (getD parents c 0) v) e in
-      let is : parent t (r .0) ≡ v = sym (holds .parent-is (r .0) (omega (arith, r .1))) ∙ eqb-true (getD parents (r .0) 0) v (r .2) in
-      by-bool (entered t (r .0))
-      (λ (i : entered t (r .0) ≡ true). left-of-among t v (r .0) (rw is at (parent-among t (r .0) i)))
-      (λ (i : entered t (r .0) ≡ false). absurd (omega (arith, parent-unentered t (r .0) i))))
-      (λ e.
-      let r = left-found t v e in
-      let b = holds .tree-within v (r .0) (r .1) in
-      any-at n (λ c. eqb (getD parents c 0) v) (r .0) (b .1)
-      (eq-eqb (getD parents (r .0) 0) v (holds .parent-is (r .0) (omega (arith, b .1)) ∙ sym (parent-only t v (r .0) (holds .one-parent) (r .1)))))
-
-  top-held : (k v : ℕ) → v < g .nodes → topIn k parents v ≡ top k (g .tree) v
-  unfolding topIn top
-  top-held zero v h = refl
-  top-held (suc k) v h =
-      by-bool (entered (g .tree) v)
-      (λ (e : entered (g .tree) v ≡ true).
-      let up = holds .tree-within (parent (g .tree) v) v (parent-among (g .tree) v e) in
-      rw (parentless v h, e, holds .parent-is v (omega (arith, few))) (top-held k (parent (g .tree) v) (up .0)))
-      (λ (e : entered (g .tree) v ≡ false). rw (parentless v h, e))
+  few = shaped .few-nodes
 
   home-held : (v : ℕ) → v < g .nodes → homeIn (g .nodes) parents v ≡ cond (left (g .tree) v) none (own g v)
-  unfolding homeIn own
-  home-held v h = rw (inner-held v h, top-held (g .nodes) v h)
+  unfolding homeIn
+  home-held v h = rw (inner-is shaped tree v h, own-is shaped tree v h)
 
   module _ (home : List ℕ) (homes : Homes (g .nodes) parents home) (placing : List ℕ) (solved : SolvedForm g (take (g .nodes) placing)) where
-    shaped : Shaped g
-    shaped = well-formed-shaped w
-
     leaf-at : (r x : ℕ) → r < g .nodes → x < g .nodes → leafAt home r x ≡ leafOf g r x
     unfolding leafOf leaf
     leaf-at r x hr hx =
@@ -107,7 +68,7 @@ module _ (g : Graph) (parents low high : List ℕ) (edges : ℕ) (w : WellFormed
 
     top-at : (r : ℕ) → r < g .nodes → topAt parents placing r ≡ (root g r && eqb (at (take (g .nodes) placing) r) none)
     unfolding root
-    top-at r h = rw (parentless r h, lt-ltb r (g .nodes) h, placed r h)
+    top-at r h = rw (parentless shaped tree r h, lt-ltb r (g .nodes) h, placed r h)
 
     leaf-held : (draw text : ℕ → List ℕ) → ((r : ℕ) → root g r ≡ true → draw r ≡ text r) → (l : ℕ) → leaf g l ≡ true → leafIn draw (g .nodes) placing l ≡ leafText text g (take (g .nodes) placing) l
     unfolding leafIn
@@ -147,8 +108,7 @@ module _ (n : ℕ) (parents placing : List ℕ) (d : Drawable n parents placing)
   nodes-few = (omega (arith, same-nodes, d .tables .well-formed .some-nodes), omega (arith, same-nodes, d .tables .well-formed .few-nodes))
 
   pub given-parents : Parents n parents
-  given-parents =
-      rw same-nodes (parents-held (d .graph .nodes) (d .graph .tree) (d .graph .dominance) parents (d .low) (d .high) (d .edges) (d .tables .well-formed .few-nodes) (d .tables .holds))
+  given-parents = tables-parents (d .tables)
 
   -- the placing has a byte for each node
   pub placing-long : n ≤ length placing
@@ -161,7 +121,7 @@ module _ (n : ℕ) (parents placing : List ℕ) (d : Drawable n parents placing)
     pub text-is : topsIn n parents home placing n ≡ drawing (d .graph) (take n placing)
     text-is =
         subst⁻¹ (λ (m : ℕ). Homes m parents home → SolvedForm (d .graph) (take m placing) → topsIn m parents home placing m ≡ drawing (d .graph) (take m placing)) same-nodes
-        (λ is solved. tops-held (d .graph) parents (d .low) (d .high) (d .edges) (d .tables .well-formed) (d .tables .holds) home is placing solved)
+        (λ is solved. tops-held (d .graph) parents (well-formed-shaped (d .tables .well-formed)) (rw same-nodes at (tree-of (d .tables))) home is placing solved)
         homes
         (d .solved)
 

@@ -9,8 +9,10 @@ use lib.Seq.{length-sets}
 use borrow.Author.Tests.{eq-eqb, ne-eqb}
 use Rattle.finite.specs.Below.{any}
 use Rattle.finite.proofs.Laws.{by-bool, any-more, or-false, or-right}
-use Rattle.draw.specs.Drawn.{run, joint, Written}
-use Rattle.draw.proofs.Texts.{written-none, written-one, written-more, run-none, run-skip, run-take, run-room, run-empty, run-some}
+use Rattle.finite.specs.Stores.{Written}
+use Rattle.finite.proofs.Stores.{written-none, written-one, written-more}
+use Rattle.draw.specs.Drawn.{run, joint}
+use Rattle.draw.proofs.Texts.{run-none, run-skip, run-take, run-room, run-empty, run-some}
 
 -- the texts before x are stored, and those up to n have room
 pub record Running (o b : List ℕ) (f : ℕ → List ℕ) (t : ℕ → Bool) (n : ℕ) (old : List ℕ) (start : ℕ) (new : List ℕ) (at x : ℕ) : Type 0 where

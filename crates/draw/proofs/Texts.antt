@@ -1,55 +1,21 @@
--- Texts and how they are stored: one after the other, the parts of a run, the digits of a number.
-use Prim.Native.Nat.{ℕ, zero, suc, _+_, _-_, _/_, _%_, _≤_, _<_}
-use mathlib.Core.Path.{_≡_, refl, sym, ap, _∙_}
+-- Texts: the parts of a run, of a fragment and of a leaf.
+use Prim.Native.Nat.{ℕ, zero, suc, _+_, _-_, _≤_, _<_}
+use mathlib.Core.Path.{_≡_, refl, _∙_}
 use mathlib.Core.List.{List, [], _∷_, _++_, append-nil}
 use mathlib.Core.Bool.{Bool, true, false, cond}
-use mathlib.Core.Logic.{⊎-elim}
-use native.Mathlib.Nat.{eq-or-lt-of-le, add-zero, add-suc, suc-add, add-assoc}
 use native.Mathlib.Omega.{arith}
-use lib.Dec.{ltb}
-use lib.ListN.{length, set, length-append}
-use lib.Seq.{sets}
-use borrow.Author.Tests.{lt-ltb, le-ltb, ltb-true, ltb-false}
+use lib.ListN.{length, length-append}
 use Rattle.finite.specs.Below.{any, spread}
 use Rattle.finite.proofs.Laws.{by-bool, or-none, any-found, spread-more}
+use Rattle.finite.proofs.Runs.{spread-longer}
 use Rattle.graph.specs.Graph.{none}
-use Rattle.graph.specs.Text.{digits, decimal}
-use Rattle.fragments.specs.Owner.{topIn}
+use Rattle.graph.specs.Text.{decimal}
+use Rattle.text.proofs.Digits.{decimal-some, decimal-three}
 use Rattle.sheet.specs.Judge.{innerIn}
-use Rattle.draw.specs.Drawn.{run, homeIn, leafIn, fragmentIn, leavesIn, hungAt, Written}
-
--- stores
-
-sets-append : (l : List ℕ) (i : ℕ) (a b : List ℕ) → sets (sets l i a) (i + length a) b ≡ sets l i (a ++ b)
-sets-append l i [] b = ap (λ k. sets l k b) (add-zero i)
-sets-append l i (x ∷ a) b = ap (λ k. sets (sets (set l i x) (suc i) a) k b) (add-suc i (length a) ∙ sym (suc-add i (length a))) ∙ sets-append (set l i x) (suc i) a b
-
--- nothing stored
-pub written-none : (old : List ℕ) (at : ℕ) → Written old at [] old at
-written-none old at = record { stored = refl; after = sym (add-zero at) }
-
--- one byte stored
-pub written-one : (old : List ℕ) (at b : ℕ) → Written old at (b ∷ []) (set old at b) (at + 1)
-written-one old at b = record { stored = refl; after = refl }
-
--- more bytes stored after the others
-pub written-more : (old : List ℕ) (at : ℕ) (bs mid : List ℕ) (end : ℕ) (cs new : List ℕ) (last : ℕ) → Written old at bs mid end → Written mid end cs new last → Written old at (bs ++ cs) new last
-written-more old at bs mid end cs new last w v =
-    record {
-      stored = v .stored ∙ rw (w .stored, w .after) (sets-append old at bs cs);
-      after = v .after ∙ rw (w .after, length-append) (add-assoc at (length bs) (length cs));
-    }
+use Rattle.trees.specs.Trees.{topIn}
+use Rattle.draw.specs.Drawn.{run, homeIn, leafIn, fragmentIn, leavesIn, hungAt}
 
 -- runs
-
-spread-longer : {A : Type 0} (f : ℕ → List A) (m n : ℕ) → m ≤ n → length (spread m f) ≤ length (spread n f)
-unfolding spread
-spread-longer f m zero h = let z : m ≡ zero = omega arith in rw z (omega arith)
-spread-longer f m (suc n) h =
-    ⊎-elim
-    (λ (e : m ≡ suc n). rw e (omega arith))
-    (λ (l : m < suc n). let ih : length (spread m f) ≤ length (spread n f) = spread-longer f m n (omega arith) in rw length-append (omega arith))
-    (eq-or-lt-of-le h)
 
 module _ (o b : List ℕ) (f : ℕ → List ℕ) (t : ℕ → Bool) where
   pub run-none : run o b f t 0 ≡ []
@@ -131,36 +97,6 @@ pub home-leaf : (n : ℕ) (parents : List ℕ) (v : ℕ) → innerIn n parents v
 unfolding homeIn
 home-leaf n parents v e = rw e
 
--- digits
-
-pub decimal-one : (v : ℕ) → v < 10 → decimal v ≡ (48 + v) ∷ []
-unfolding decimal digits
-decimal-one v h = rw (lt-ltb v 10 h)
-
-pub decimal-two : (v : ℕ) → 10 ≤ v → v < 100 → decimal v ≡ (48 + v / 10) ∷ (48 + v % 10) ∷ []
-unfolding decimal digits
-decimal-two v l h = rw (le-ltb v 10 l, lt-ltb (v / 10) 10 (omega arith))
-
-pub decimal-three : (v : ℕ) → 100 ≤ v → v < 1000 → decimal v ≡ (48 + v / 10 / 10) ∷ (48 + v / 10 % 10) ∷ (48 + v % 10) ∷ []
-unfolding decimal digits
-decimal-three v l h = rw (le-ltb v 10 (omega arith), le-ltb (v / 10) 10 (omega arith), lt-ltb (v / 10 / 10) 10 (omega arith))
-
-pub length-one : (v : ℕ) → v < 10 → length (decimal v) ≡ 1
-length-one v h = rw (decimal-one v h)
-
-pub length-two : (v : ℕ) → 10 ≤ v → v < 100 → length (decimal v) ≡ 2
-length-two v l h = rw (decimal-two v l h)
-
-pub length-three : (v : ℕ) → 100 ≤ v → v < 1000 → length (decimal v) ≡ 3
-length-three v l h = rw (decimal-three v l h)
-
 -- a number is one to three bytes
 pub number-length : (v : ℕ) → v < 1000 → (1 ≤ length (decimal v)) × (length (decimal v) ≤ 3)
-number-length v h =
-    by-bool (ltb v 10)
-    (λ (e : ltb v 10 ≡ true). let f = length-one v (ltb-true v 10 e) in (omega arith, omega arith))
-    (λ (e : ltb v 10 ≡ false).
-    let l : 10 ≤ v = ltb-false v 10 e in
-    by-bool (ltb v 100)
-    (λ (d : ltb v 100 ≡ true). let f = length-two v l (ltb-true v 100 d) in (omega arith, omega arith))
-    (λ (d : ltb v 100 ≡ false). let f = length-three v (ltb-false v 100 d) h in (omega arith, omega arith)))
+number-length v h = (decimal-some v (omega arith), decimal-three v h)

@@ -5,13 +5,12 @@ use mathlib.Core.List.{List, [], _∷_, _++_}
 use mathlib.Core.Bool.{Bool, cond, _&&_}
 use lib.Dec.{eqb}
 use lib.ListN.{length, getD, take, drop}
-use lib.Seq.{sets}
 use Rattle.finite.specs.Below.{any, spread}
 use Rattle.graph.specs.Graph as spec
 use Rattle.graph.specs.Placing.{SolvedForm}
 use Rattle.graph.specs.Text.{decimal}
-use Rattle.fragments.specs.Owner.{topIn}
 use Rattle.rows.specs.Rows.{Tables}
+use Rattle.trees.specs.Trees.{topIn}
 use Rattle.sheet.specs.Judge.{innerIn}
 
 -- the texts of the numbers below k that have t, o before the first and b before each other
@@ -64,11 +63,6 @@ topsIn n parents home p x = run [] (59 ∷ []) (λ s. fragmentIn n n home p s) (
 -- what stands before a top fragment that begins at `at`
 abbrev pub joint : ℕ → List ℕ
 joint at = cond (eqb at 0) [] (59 ∷ [])
-
--- from `at` on the bytes bs were stored, and the place after them is `end`
-pub record Written (old : List ℕ) (at : ℕ) (bs new : List ℕ) (end : ℕ) : Type 0 where
-  pub stored : new ≡ sets old at bs
-  pub after : end ≡ at + length bs
 
 -- The tables that a text is read off are long enough.
 pub record Lent (n : ℕ) (home placing : List ℕ) : Type 0 where

@@ -2,34 +2,17 @@
 use nodeset::NodeSet;
 use sheet::NONE;
 use sheet::judge::inner_nodes;
+use trees::own;
 ghost use mathlib.Core.Path.{_≡_};
 ghost use Prim.Native.Nat.{_+_, _≤_, _<_};
 ghost use mathlib.Core.Bool.{_&&_};
 ghost use lib.Dec.{eqb};
 ghost use lib.ListN.{length, take};
+ghost use Rattle.finite.specs.Stores.{Written};
 ghost use Rattle.graph.specs.Drawing.{drawing};
 ghost use Rattle.graph.specs.Text.{decimal};
-ghost use Rattle.fragments.specs.Owner.{topIn};
 ghost use Rattle.sheet.specs.Judge.{Parents, InnerSet};
-ghost use Rattle.draw.specs.Drawn.{homeIn, Homes, hungLeafIn, fragmentIn, topsIn, joint, Written, Lent, Drawable, Drawn};
-
-// From v up to a node without a parent.
-fn climb(parent: &[u8], n: usize, v: usize) -> usize
-    requires { ⌜ Parents n (now parent) × (v < n) ⌝ }
-    ensures { λ r. ⌜ (r ≡ topIn n (now (parent .entry)) v) × (r < n) ⌝ }
-{
-    let mut at = v;
-    let mut left = n;
-    while 0 < left {
-        let above = parent[at];
-        if above == NONE {
-            return at;
-        }
-        at = above as usize;
-        left -= 1;
-    }
-    at
-}
+ghost use Rattle.draw.specs.Drawn.{homeIn, Homes, hungLeafIn, fragmentIn, topsIn, joint, Lent, Drawable, Drawn};
 
 // The root of v's fragment, where v is a leaf.
 fn home(parent: &[u8], n: usize, inner: NodeSet, v: usize) -> u8
@@ -39,7 +22,7 @@ fn home(parent: &[u8], n: usize, inner: NodeSet, v: usize) -> u8
     if inner.has(v) {
         return NONE;
     }
-    climb(parent, n, v) as u8
+    own(parent, n, v) as u8
 }
 
 fn fill_homes(parent: &[u8], n: usize, inner: NodeSet, homes: &mut [u8])
@@ -56,19 +39,7 @@ fn number(v: u8, out: &mut [u8], at: usize) -> usize
     requires { ⌜ at + length (decimal v) ≤ length (now out) ⌝ }
     ensures { λ r. ⌜ Written (now (out .entry)) at (decimal v) (now (out .exit)) r ⌝ }
 {
-    if v < 10 {
-        out[at] = 48 + v;
-        return at + 1;
-    }
-    if v < 100 {
-        out[at] = 48 + v / 10;
-        out[at + 1] = 48 + v % 10;
-        return at + 2;
-    }
-    out[at] = 48 + v / 10 / 10;
-    out[at + 1] = 48 + v / 10 % 10;
-    out[at + 2] = 48 + v % 10;
-    at + 3
+    text::decimal(v as usize, out, at)
 }
 
 // The fragment of the root r; the place after it. On the way down at most `left` fragments are not yet drawn.

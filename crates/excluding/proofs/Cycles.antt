@@ -1,18 +1,18 @@
 -- What the test `hypernormalCycle` says, as facts: there are two nodes or more, no two places hold one node, each node
 -- is joined to the next, no two places hold one edge, and a leaf has a dominance edge of the cycle at one place at most.
 -- Each "no two places" is stated as: places that agree are equal.
-use Prim.Native.Nat.{ℕ, _+_, _≤_, _<_, _%_}
-use mathlib.Core.Path.{_≡_, refl, sym, _∙_}
+use Prim.Native.Nat.{ℕ, _≤_, _<_, _%_}
+use mathlib.Core.Path.{_≡_, sym, _∙_}
 use mathlib.Core.List.{List}
 use mathlib.Core.Bool.{Bool, true, false, not, _&&_, _||_, true≢false}
 use mathlib.Core.Logic.{_⊎_, inl, inr, ⊎-elim, _↔_}
 use native.Mathlib.Omega.{arith}
 use lib.Dec.{eqb, ltb, leb}
 use lib.ListN.{length}
-use borrow.Author.Tests.{eqb-true, eqb-false, eq-eqb, ne-eqb, leb-true, ltb-true, ltb-false, not-true}
+use borrow.Author.Tests.{eqb-true, eq-eqb, leb-true, ltb-true, ltb-false, not-true}
 use Rattle.finite.specs.Below.{all, count}
 use Rattle.finite.proofs.Bounds.{count-single}
-use Rattle.finite.proofs.Laws.{by-bool, or-cases, and-both, and-true, and-false, all-at, count-one-more}
+use Rattle.finite.proofs.Laws.{by-bool, or-cases, and-both, all-at}
 use Rattle.graph.specs.Graph.{Graph, among, leaf, TreeEdge, DominanceEdge}
 use Rattle.graph.specs.Cycle.{pairs, node, kind, next, joined, sameEdge, cycle, dominanceAt, hypernormal, hypernormalCycle}
 use Rattle.layout.proofs.Spelling.{leaf-below}
@@ -70,7 +70,7 @@ apart n r h i j l k t =
     true≢false (sym t ∙ not-true (r i j) (all-at i (λ j. not (r i j)) row j k))
 
 -- a symmetric relation that holds of no place and a lower one holds of equal places only
-equal-places : (n : ℕ) (R : ℕ → ℕ → Type 0) → ((i j : ℕ) → i < n → j < i → R i j → ⊥) → ((i j : ℕ) → R i j → R j i) → (i j : ℕ) → i < n → j < n → R i j → i ≡ j
+pub equal-places : (n : ℕ) (R : ℕ → ℕ → Type 0) → ((i j : ℕ) → i < n → j < i → R i j → ⊥) → ((i j : ℕ) → R i j → R j i) → (i j : ℕ) → i < n → j < n → R i j → i ≡ j
 equal-places n R f s i j hi hj r =
     by-bool (ltb j i)
     (λ (t : ltb j i ≡ true). absurd (f i j hi (ltb-true j i t) r))
@@ -116,11 +116,11 @@ cycle-facts g bs h =
 abbrev pub DominanceAt : List ℕ → ℕ → ℕ → Type 0
 DominanceAt bs x i = (kind bs i ≡ 3) × ((node bs i ≡ x) ⊎ (next bs i ≡ x))
 
-dominance-at : (bs : List ℕ) (x i : ℕ) → DominanceAt bs x i → dominanceAt bs x i ≡ true
+pub dominance-at : (bs : List ℕ) (x i : ℕ) → (dominanceAt bs x i ≡ true) ↔ DominanceAt bs x i
 unfolding dominanceAt
 dominance-at bs x i =
     and-holds (eqb (kind bs i) 3) (eqb (node bs i) x || eqb (next bs i) x) (eqb-holds (kind bs i) 3)
-    (or-holds (eqb (node bs i) x) (eqb (next bs i) x) (eqb-holds (node bs i) x) (eqb-holds (next bs i) x)) .1
+    (or-holds (eqb (node bs i) x) (eqb (next bs i) x) (eqb-holds (node bs i) x) (eqb-holds (next bs i) x))
 
 pub hypernormal-leaf : (g : Graph) (bs : List ℕ) → hypernormal g bs ≡ true → (x i j : ℕ) → leaf g x ≡ true → i < pairs bs → j < pairs bs → DominanceAt bs x i → DominanceAt bs x j → i ≡ j
 unfolding hypernormal
@@ -128,7 +128,7 @@ hypernormal-leaf g bs h x i j l hi hj a b =
     let c : ℕ = count (pairs bs) (dominanceAt bs x) in
     let t : (not (leaf g x) || leb c 1) ≡ true = all-at (g .nodes) (λ x. not (leaf g x) || leb (count (pairs bs) (dominanceAt bs x)) 1) h x (leaf-below g x l) in
     let few : leb c 1 ≡ true = rw l at t in
-    count-single (pairs bs) (dominanceAt bs x) i j (leb-true c 1 few) hi hj (dominance-at bs x i a) (dominance-at bs x j b)
+    count-single (pairs bs) (dominanceAt bs x) i j (leb-true c 1 few) hi hj (dominance-at bs x i .1 a) (dominance-at bs x j .1 b)
 
 -- both at once
 pub hypernormal-cycle : (g : Graph) (bs : List ℕ) → hypernormalCycle g bs ≡ true → (cycle g bs ≡ true) × (hypernormal g bs ≡ true)

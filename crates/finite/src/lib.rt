@@ -1,1 +1,1 @@
-// Definitions and laws on the numbers below a bound; no code.
+// Definitions and laws on the numbers below a bound, and on stores; no code.

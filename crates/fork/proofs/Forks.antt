@@ -19,7 +19,7 @@ use Rattle.listing.proofs.Choosing.{Unforked}
 use Rattle.fork.specs.Given.{Given}
 use Rattle.fork.specs.Staying.{Closed, stays, Heads}
 use Rattle.fork.specs.Chosen.{Forked, NextLeaf}
-use Rattle.fork.proofs.Counts.{two-counted, counted-two}
+use Rattle.finite.proofs.Counting.{two-counted, counted-two}
 use Rattle.fork.proofs.Staying.{closed, stays-kept}
 
 -- the search for a leaf, one number after the other

@@ -10,11 +10,12 @@ use native.Mathlib.Omega.{arith}
 use lib.Dec.{eqb, ltb}
 use lib.ListN.{length, getD, set, take, drop, length-set, length-drop}
 use lib.Seq.{getD-set-same, getD-set-other, getD-take, getD-drop, ext-getD, length-take-le}
-use borrow.Author.Tests.{eqb-true, eqb-false, eq-eqb, lt-ltb, le-ltb, ltb-true, ltb-false}
+use borrow.Author.Tests.{eqb-true, eqb-false, lt-ltb, le-ltb, ltb-true, ltb-false}
 use Rattle.finite.specs.Below.{all, count}
 use Rattle.finite.proofs.Laws.{by-bool, last-or-below, and-both, or-cases, all-at}
 use Rattle.nodeset.specs.Set.{mem, Removed}
 use Rattle.nodeset.specs.declared.NodeSet.{NodeSet}
+use Rattle.nodeset.proofs.Members.{Small, one-less}
 use Rattle.graph.specs.Graph.{Graph, root, leaf, none, TreeEdge, one}
 use Rattle.graph.specs.Order.{Kept}
 use Rattle.graph.specs.Placing.{at, placing, hangs, Below, PlacingEdge}
@@ -25,11 +26,10 @@ use Rattle.paths.proofs.Closure.{path-trans, path-first, path-last}
 use Rattle.paths.proofs.Table.{hangs-parts, hangs-intro}
 use Rattle.paths.proofs.Fragments.{leaf-childless}
 use Rattle.listing.proofs.Redundancy.{Loopless}
-use Rattle.listing.proofs.Choosing.{Unforked, count-grows}
+use Rattle.listing.proofs.Choosing.{Unforked}
 use Rattle.listing.proofs.Settled.{settled, settled-placing, settled-descent, descent-settled, settled-solved}
 use Rattle.fork.specs.Given.{Given}
 use Rattle.fork.specs.Staying.{Closed, stays, Heads}
-use Rattle.fork.proofs.Members.{Small}
 use Rattle.fork.proofs.Staying.{kept-rows, stays-kept}
 
 -- the settled placing
@@ -167,9 +167,7 @@ hang-start s l old =
 
 module _ (s : NodeSet) (l : ℕ) (old : List ℕ) (left : NodeSet) (new : List ℕ) (x : ℕ) (left′ : NodeSet) (in-left : mem left x ≡ true) (gone : Removed left x left′) where
   pub hang-less : x < 128 → count 128 (mem left′) < count 128 (mem left)
-  hang-less h =
-      count-grows 128 (mem left′) (mem left) (λ k m. and-both (not (eqb k x)) (mem left k) (sym (gone k) ∙ m) .1) x h
-      (gone x ∙ rw (eq-eqb x x refl)) in-left
+  hang-less h = omega (arith, one-less left x left′ h in-left gone)
 
   pub hang-more : x < length old → HungSo s l old left new → HungSo s l old left′ (set new x l)
   hang-more h so =

@@ -1,5 +1,3 @@
-pub mod Members
-pub mod Counts
 pub mod Trees
 pub mod Tops
 pub mod Staying

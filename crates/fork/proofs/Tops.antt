@@ -10,11 +10,11 @@ use Rattle.finite.specs.Below.{any, count}
 use Rattle.finite.proofs.Laws.{by-bool, and-both, and-intro, and-false, any-at, any-none, any-ext}
 use Rattle.nodeset.specs.Set.{mem, Empty, Removed, Intersection, Difference}
 use Rattle.nodeset.specs.declared.NodeSet.{NodeSet}
+use Rattle.nodeset.proofs.Members.{Small}
 use Rattle.finite.proofs.Laws.{not-holding, test-ext}
-use Rattle.listing.proofs.Choosing.{count-grows}
+use Rattle.finite.proofs.Counting.{count-grows}
 use Rattle.rows.specs.Rows.{inRow}
 use Rattle.fork.specs.Staying.{Closed, topIn, stays, Tops, Heads}
-use Rattle.fork.proofs.Members.{Small}
 
 pub record TopsSo (set : NodeSet) (low high : List ℕ) (top left : NodeSet) : Type 0 where
   pub top-of : (v : ℕ) → mem top v ≡ true → mem set v ≡ true
@@ -52,7 +52,7 @@ module _
   left-gone = is-left x ∙ rw (is-mid x, eq-eqb x x refl)
 
   pub tops-less : x < 128 → count 128 (mem left′) < count 128 (mem left)
-  tops-less h = count-grows 128 (mem left′) (mem left) left-parts x h left-gone in-left
+  tops-less h = count-grows 128 (mem left′) (mem left) x (λ k _. left-parts k) h left-gone in-left
 
   -- what row x has is out
   row-out : (v : ℕ) → inRow low high x v ≡ true → mem top′ v ≡ false

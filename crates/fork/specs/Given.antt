@@ -1,23 +1,13 @@
 -- What the answers are about: a graph, its leaves and roots as sets, and the rows of its descent relation.
-use Prim.Native.Nat.{ℕ, _<_}
+use Prim.Native.Nat.{ℕ}
 use mathlib.Core.Path.{_≡_}
 use mathlib.Core.List.{List}
-use lib.ListN.{length, getD}
 use Rattle.nodeset.specs.Set.{mem}
 use Rattle.nodeset.specs.declared.NodeSet.{NodeSet}
-use Rattle.graph.specs.Graph.{Graph, parent, root, leaf, Descent}
+use Rattle.graph.specs.Graph.{Graph, root, leaf, Descent}
 use Rattle.paths.proofs.Shape.{Shaped}
 use Rattle.listing.proofs.Redundancy.{Loopless}
 use Rattle.rows.specs.Rows.{Rows}
-
--- the table of parents holds the trees of g, whatever its dominance edges
-pub record TreeOf (g : Graph) (n : ℕ) (parents : List ℕ) : Type 0 where
-  pub nodes : n ≡ g .nodes
-  pub parent-is : (v : ℕ) → v < 128 → getD parents v 0 ≡ parent (g .tree) v
-
--- a table of rows has 128
-abbrev pub Long : List ℕ → List ℕ → Type 0
-Long low high = (length low ≡ 128) × (length high ≡ 128)
 
 pub record Ends (g : Graph) (n : ℕ) (leaves roots : NodeSet) : Type 0 where
   pub nodes : n ≡ g .nodes

@@ -1,10 +1,10 @@
 // The choice of Rule 3: the lowest root with two edges that stay, and of their leaves the two lowest.
 use crate::heads::heads;
 use nodeset::NodeSet;
-ghost use mathlib.Core.Path.{_≡_};
 ghost use Prim.Native.Nat.{_≤_, _<_};
 ghost use Rattle.graph.specs.Graph.{Graph};
-ghost use Rattle.fork.specs.Given.{Long, Given};
+ghost use Rattle.rows.specs.Rows.{Long};
+ghost use Rattle.fork.specs.Given.{Given};
 ghost use Rattle.fork.specs.Chosen.{Forked, NextLeaf, Bounded, Chosen};
 
 pub enum Fork {

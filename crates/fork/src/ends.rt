@@ -8,7 +8,7 @@ ghost use Rattle.nodeset.specs.Set.{mem};
 ghost use Rattle.graph.specs.Graph.{Graph, leaf};
 ghost use Rattle.paths.proofs.Shape.{Shaped};
 ghost use Rattle.sheet.specs.Judge.{Parents};
-ghost use Rattle.fork.specs.Given.{TreeOf};
+ghost use Rattle.trees.specs.Trees.{TreeOf};
 
 // The numbers below n.
 fn numbers(n: usize) -> NodeSet

@@ -1,21 +1,9 @@
 // Rule 2: the roots that a leaf's edges go to, those that are redundant left out.
 use nodeset::NodeSet;
-ghost use mathlib.Core.Path.{_≡_};
-ghost use Prim.Native.Nat.{ℕ, _<_};
-ghost use Rattle.nodeset.specs.Set.{mem};
-ghost use Rattle.rows.specs.Rows.{inRow};
-ghost use Rattle.fork.specs.Given.{Long};
+use rows::row;
+ghost use Prim.Native.Nat.{_<_};
+ghost use Rattle.rows.specs.Rows.{Long};
 ghost use Rattle.fork.specs.Staying.{Tops, Heads};
-
-fn row(low: &[u64], high: &[u64], u: usize) -> NodeSet
-    requires { ⌜ Long (now low) (now high) × (u < 128) ⌝ }
-    ensures { λ r. ⌜ ((v : ℕ) → mem r v ≡ inRow (now (low .entry)) (now (high .entry)) u v) ⌝ }
-{
-    NodeSet {
-        low: low[u],
-        high: high[u],
-    }
-}
 
 // The members of the set that are in no member's row. In closed rows a member that is in a row already read has nothing
 // new in its own, and is passed over.

@@ -11,7 +11,8 @@ ghost use Rattle.nodeset.specs.Set.{mem};
 ghost use Rattle.graph.specs.Graph.{Graph, none};
 ghost use Rattle.listing.proofs.Choosing.{Unforked};
 ghost use Rattle.listing.proofs.Settled.{settled};
-ghost use Rattle.fork.specs.Given.{Long, Given};
+ghost use Rattle.rows.specs.Rows.{Long};
+ghost use Rattle.fork.specs.Given.{Given};
 
 // No node, in the first n bytes.
 fn clear(out: &mut [u8], n: usize)

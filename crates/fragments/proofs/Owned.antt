@@ -1,52 +1,20 @@
--- Each loop's step: one edge up, one entry of the table of owners, one node of a fragment, one record.
-use Prim.Native.Nat.{ℕ, zero, suc, _+_, _-_, _*_, _≤_, _<_}
+-- Each loop's step: one node of a fragment, one record.
+use Prim.Native.Nat.{ℕ, _+_, _-_, _*_}
 use mathlib.Core.Path.{_≡_, refl, _∙_}
 use mathlib.Core.List.{List, [], _∷_, _++_}
 use mathlib.Core.Bool.{true, false, _&&_, _||_}
 use native.Mathlib.Omega.{arith}
 use lib.Dec.{eqb, ltb}
-use lib.ListN.{length, getD, set, length-append}
-use lib.Seq.{sets, getD-set-same, getD-set-other}
-use borrow.Author.Tests.{eq-eqb, ne-eqb, eqb-true, eqb-false, lt-ltb, le-ltb, ltb-true, ltb-false}
+use lib.ListN.{length, getD, length-append}
+use lib.Seq.{sets}
+use borrow.Author.Tests.{eqb-true, eqb-false, lt-ltb, le-ltb, ltb-true, ltb-false}
 use Rattle.finite.specs.Below.{count, least, spread}
 use Rattle.finite.proofs.Laws.{by-bool, spread-more, count-ext}
 use Rattle.nodeset.specs.Set.{mem, Difference}
 use Rattle.nodeset.specs.declared.NodeSet.{NodeSet}
 use Rattle.finite.proofs.Bounds.{least-ext}
-use Rattle.graph.specs.Graph.{none}
-use Rattle.fragments.specs.Owner.{topIn, nodeIn, NodesOf, leafIn, recordIn, recordsBelow}
+use Rattle.fragments.specs.Owner.{nodeIn, NodesOf, leafIn, recordIn, recordsBelow}
 use Rattle.finite.proofs.Runs.{sets-append, length-spread}
-
--- one edge up
-
-pub top-ends : (k : ℕ) (parents : List ℕ) (v : ℕ) → getD parents v 0 ≡ none → topIn k parents v ≡ v
-unfolding topIn
-top-ends zero parents v e = refl
-top-ends (suc k) parents v e = rw (eq-eqb (getD parents v 0) none e)
-
-pub top-goes-on : (k : ℕ) (parents : List ℕ) (v : ℕ) → 0 < k → (getD parents v 0 ≡ none → ⊥) → topIn (k - 1) parents (getD parents v 0) ≡ topIn k parents v
-unfolding topIn
-top-goes-on zero parents v h e = absurd (omega arith)
-top-goes-on (suc k) parents v h e =
-    let less : suc k - 1 ≡ k = omega arith in
-    rw (less, ne-eqb (getD parents v 0) none e)
-
-pub top-stops : (k : ℕ) (parents : List ℕ) (v : ℕ) → k ≤ 0 → topIn k parents v ≡ v
-unfolding topIn
-top-stops zero parents v h = refl
-top-stops (suc k) parents v h = absurd (omega arith)
-
--- one entry more
-
-pub entry-more : (f : ℕ → ℕ) (l : List ℕ) (v x : ℕ) → v < length l → x ≡ f v → ((k : ℕ) → k < v → getD l k 0 ≡ f k) → (k : ℕ) → k < v + 1 → getD (set l v x) k 0 ≡ f k
-entry-more f l v x h e below k lt =
-    by-bool (eqb k v)
-    (λ (t : eqb k v ≡ true).
-    let i : k ≡ v = eqb-true k v t in
-    rw (i, getD-set-same l v x 0 h) e)
-    (λ (t : eqb k v ≡ false).
-    let apart : k ≡ v → ⊥ = eqb-false k v t in
-    rw (getD-set-other l v k x 0 apart) (below k (omega arith)))
 
 -- one node more
 

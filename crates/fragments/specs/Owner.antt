@@ -1,24 +1,13 @@
 -- The records of the table, as read off the parents and the sets of inner nodes and of roots.
-use Prim.Native.Nat.{ℕ, zero, suc, _<_}
+use Prim.Native.Nat.{ℕ}
 use mathlib.Core.Path.{_≡_}
 use mathlib.Core.List.{List, [], _∷_}
 use mathlib.Core.Bool.{Bool, cond, not, _&&_, _||_}
 use lib.Dec.{eqb, ltb}
-use lib.ListN.{length, getD}
+use lib.ListN.{getD}
 use Rattle.finite.specs.Below.{count, least, spread}
 use Rattle.nodeset.specs.Set.{mem}
 use Rattle.nodeset.specs.declared.NodeSet.{NodeSet}
-use Rattle.graph.specs.Graph.{none}
-
--- from v up to a node without a parent, k edges at most
-unfoldable pub topIn : ℕ → List ℕ → ℕ → ℕ
-topIn zero parents v = v
-topIn (suc k) parents v = cond (eqb (getD parents v 0) none) v (topIn k parents (getD parents v 0))
-
--- A table of 128 entries that has of each node the root of its fragment.
-pub record Owners (n : ℕ) (parents owner : List ℕ) : Type 0 where
-  pub long : length owner ≡ 128
-  pub top-is : (v : ℕ) → v < n → getD owner v 0 ≡ topIn n parents v
 
 -- v is a node of the fragment of r
 unfoldable pub nodeIn : ℕ → List ℕ → ℕ → ℕ → Bool

@@ -5,12 +5,12 @@ use mathlib.Core.List.{List, [], _∷_, _++_}
 use mathlib.Core.Bool.{cond}
 use lib.Dec.{ltb}
 use lib.ListN.{length, drop}
-use Rattle.graph.specs.Graph.{Graph, WellFormed}
+use Rattle.graph.specs.Graph.{Graph}
 use Rattle.graph.specs.Sheet.{Outcome, refused, accepted}
 use Rattle.graph.specs.Table.{fragments}
 use Rattle.graph.specs.declared.Fragment.{Fragment}
 use Rattle.graph.specs.declared.Refusal.the-variants.{SmallBuffer}
-use Rattle.sheet.specs.Turn.{Holds}
+use Rattle.rows.specs.Rows.{Tables}
 use Rattle.fragments.specs.declared.Table.{Table}
 use Rattle.fragments.specs.declared.Table.the-variants.{Filled, Refused}
 
@@ -41,4 +41,4 @@ pub record Tabled (o : Outcome) (r : Table) (old new : List ℕ) : Type 0 where
 -- What the table of parents says of each graph that it holds.
 abbrev pub TableIn : ℕ → List ℕ → Table → List ℕ → List ℕ → Type 0
 TableIn n parents r old new =
-    (g : Graph) (low high : List ℕ) (edges : ℕ) → WellFormed g → n ≡ g .nodes → Holds (g .nodes) (g .tree) (g .dominance) parents low high edges → Tabled (accepted g) r old new
+    (g : Graph) (low high : List ℕ) (edges : ℕ) → Tables g n parents low high edges → Tabled (accepted g) r old new

@@ -1,11 +1,11 @@
 // The fragment table of a sheet.
 use graph::Refusal;
 use nodeset::NodeSet;
-use sheet::NONE;
 use sheet::judge::Verdict;
 use sheet::judge::inner_nodes;
 use sheet::judge::root_nodes;
 use sheet::read::read;
+use trees::owners;
 ghost use mathlib.Core.Path.{_≡_};
 ghost use Prim.Native.Nat.{_+_, _*_, _≤_, _<_};
 ghost use lib.ListN.{length};
@@ -14,41 +14,13 @@ ghost use Rattle.finite.specs.Below.{count};
 ghost use Rattle.nodeset.specs.Set.{mem};
 ghost use Rattle.graph.specs.Sheet.{outcome};
 ghost use Rattle.sheet.specs.Judge.{Parents};
-ghost use Rattle.fragments.specs.Owner.{topIn, Owners, WithNode, NodesOf, recordIn, recordsIn};
+ghost use Rattle.fragments.specs.Owner.{WithNode, NodesOf, recordIn, recordsIn};
 ghost use Rattle.fragments.specs.Table.{TableIn, Tabled};
 
 pub enum Table {
     // The number of fragments.
     Filled(usize),
     Refused(Refusal),
-}
-
-// From v up to a node without a parent.
-fn climb(parent: &[u8], n: usize, v: usize) -> usize
-    requires { ⌜ Parents n (now parent) × (v < n) ⌝ }
-    ensures { λ r. ⌜ (r ≡ topIn n (now (parent .entry)) v) × (r < n) ⌝ }
-{
-    let mut at = v;
-    let mut left = n;
-    while 0 < left {
-        let above = parent[at];
-        if above == NONE {
-            return at;
-        }
-        at = above as usize;
-        left -= 1;
-    }
-    at
-}
-
-// The root of each node's fragment.
-fn owners(parent: &[u8], n: usize, owner: &mut [u8])
-    requires { ⌜ Parents n (now parent) × (length (now owner) ≡ 128) ⌝ }
-    ensures { λ _. ⌜ Owners n (now (parent .entry)) (now (owner .exit)) ⌝ }
-{
-    for v in 0..n {
-        owner[v] = climb(parent, n, v) as u8;
-    }
 }
 
 fn with_node(set: NodeSet, v: usize, own: u8, root: u8) -> NodeSet

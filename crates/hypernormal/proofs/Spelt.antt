@@ -3,25 +3,25 @@
 -- of M or the closing one, starts at each leaf. Two edges of such a cycle are different: only with two nodes could
 -- they join the same two, and then one of them is no dominance edge. Two dominance edges at one leaf would start there,
 -- so they would be one edge.
-use Prim.Native.Nat.{ℕ, zero, suc, _+_, _≤_, _<_, _%_}
-use mathlib.Core.Path.{_≡_, sym, ap, subst, _∙_}
+use Prim.Native.Nat.{ℕ, _+_, _≤_, _<_, _%_}
+use mathlib.Core.Path.{_≡_, sym, subst, _∙_}
 use mathlib.Core.List.{List}
-use mathlib.Core.Bool.{Bool, true, false, not, _||_}
+use mathlib.Core.Bool.{true, false, not, _||_}
 use mathlib.Core.Logic.{_⊎_, inl, inr, ⊎-elim}
 use native.Mathlib.Omega.{arith}
-use native.Mathlib.Nat.{eq-or-lt-of-le, mod-eq-of-lt, mod-self}
-use lib.Dec.{eqb, ltb, leb}
+use lib.Dec.{eqb, leb}
 use lib.ListN.{length}
-use borrow.Author.Tests.{eqb-true, ltb-true, ltb-false, le-leb}
-use Rattle.finite.specs.Below.{all, count}
-use Rattle.finite.proofs.Laws.{by-bool, or-left, or-right, or-cases, and-both, all-every, count-none}
+use borrow.Author.Tests.{eqb-true, le-leb}
+use Rattle.finite.specs.Below.{count}
+use Rattle.finite.proofs.Laws.{by-bool, or-left, or-right, all-every}
 use Rattle.graph.specs.Graph.{Graph, among, leaf, TreeEdge, DominanceEdge}
 use Rattle.graph.specs.Cycle.{pairs, node, kind, next, joined, sameEdge, cycle, dominanceAt, hypernormal, hypernormalCycle}
-use Rattle.finite.proofs.Laws.{not-holding}
+use Rattle.finite.proofs.Counting.{count-one, all-apart}
 use Rattle.paths.proofs.Shape.{Shaped}
 use Rattle.paths.proofs.Closure.{Adding}
 use Rattle.paths.proofs.Fragments.{leaf-not-root}
-use Rattle.excluding.proofs.Cycles.{SameEdge, same-edge}
+use Rattle.excluding.proofs.Cycles.{same-edge, dominance-at}
+use Rattle.excluding.proofs.Places.{next-inner, next-last, place-cases, edges-differ}
 use Rattle.hypernormal.proofs.Trails.{EitherWay}
 
 -- an edge of kind k, taken either way: of the tree, or of M
@@ -51,48 +51,6 @@ pub record Sparse (g : Graph) (M : ℕ → ℕ → Type 0) (l r : ℕ) : Type 0 
   pub one-from : (x y z : ℕ) → M x y → M x z → y ≡ z
   pub edge : DominanceEdge g l r
   pub none-from : (y : ℕ) → M l y → ⊥
-
--- where no two have it, the count is one at most
-count-one : (n : ℕ) (p : ℕ → Bool) → ((i j : ℕ) → i < n → j < i → p i ≡ true → p j ≡ true → ⊥) → count n p ≤ 1
-unfolding count
-count-one zero p f = omega arith
-count-one (suc n) p f =
-    by-bool (p n)
-    (λ (t : p n ≡ true).
-    let zeros : count n p ≡ 0 = count-none n p (λ k h. not-holding (p k) (λ u. f n k (omega arith) h t u)) in
-    rw (t, zeros) (omega arith))
-    (λ (t : p n ≡ false).
-    let ih : count n p ≤ 1 = count-one n p (λ i j h. f i j (omega arith)) in
-    rw t (omega arith))
-
--- no test holds at two places below n
-all-apart : (n : ℕ) (r : ℕ → ℕ → Bool) → ((i j : ℕ) → i < n → j < i → r i j ≡ true → ⊥) → all n (λ i. all i (λ j. not (r i j))) ≡ true
-all-apart n r f =
-    all-every n (λ i. all i (λ j. not (r i j))) (λ i h.
-    all-every i (λ j. not (r i j)) (λ j k.
-    let e : r i j ≡ false = not-holding (r i j) (λ t. f i j h k t) in rw e))
-
-next-inner : (bs : List ℕ) (i : ℕ) → i + 1 < pairs bs → next bs i ≡ node bs (i + 1)
-next-inner bs i h = ap (node bs) (mod-eq-of-lt h)
-
-next-last : (bs : List ℕ) (i : ℕ) → i + 1 ≡ pairs bs → next bs i ≡ node bs 0
-next-last bs i e = ap (node bs) (subst (λ (n : ℕ). (i + 1) % n ≡ 0) e (mod-self (i + 1)))
-
--- a place is the last, or before it
-place-cases : (bs : List ℕ) (i : ℕ) → i < pairs bs → (i + 1 ≡ pairs bs) ⊎ (i + 1 < pairs bs)
-place-cases bs i h = eq-or-lt-of-le (omega arith)
-
-dominance-kind : (bs : List ℕ) (x i : ℕ) → dominanceAt bs x i ≡ true → kind bs i ≡ 3
-unfolding dominanceAt
-dominance-kind bs x i t = eqb-true (kind bs i) 3 (and-both (eqb (kind bs i) 3) (eqb (node bs i) x || eqb (next bs i) x) t .0)
-
-dominance-end : (bs : List ℕ) (x i : ℕ) → dominanceAt bs x i ≡ true → (node bs i ≡ x) ⊎ (next bs i ≡ x)
-unfolding dominanceAt
-dominance-end bs x i t =
-    ⊎-elim
-    (λ q. inl (eqb-true (node bs i) x q))
-    (λ q. inr (eqb-true (next bs i) x q))
-    (or-cases (eqb (node bs i) x) (eqb (next bs i) x) (and-both (eqb (kind bs i) 3) (eqb (node bs i) x || eqb (next bs i) x) t .1))
 
 joined-step : (g : Graph) (k u v : ℕ) → Step g (DominanceEdge g) k u v → joined g k u v ≡ true
 unfolding joined
@@ -157,46 +115,19 @@ module _ (g : Graph) (s : Shaped g) (M : ℕ → ℕ → Type 0) (l r : ℕ) (k 
         (λ (t : (kind bs 0 ≡ 3) × EitherWay M (node bs 0) (node bs 1)). not-joined (node bs 0) (node bs 1) far (t .1))
         (c .steps 0 (omega arith))
 
-    -- places of one node are one place
-    one-place : (i j : ℕ) → i < pairs bs → j < pairs bs → node bs i ≡ node bs j → i ≡ j
-    one-place i j hi hj e =
-        by-bool (ltb j i)
-        (λ (t : ltb j i ≡ true). absurd (c .different i j hi (ltb-true j i t) e))
-        (λ (t : ltb j i ≡ false).
-        by-bool (ltb i j)
-        (λ (u : ltb i j ≡ true). absurd (c .different j i hj (ltb-true i j u) (sym e)))
-        (λ (u : ltb i j ≡ false). omega (arith, ltb-false j i t, ltb-false i j u)))
-
-    edges-differ : (i j : ℕ) → i < pairs bs → j < i → SameEdge bs i j → ⊥
-    edges-differ i j h d e =
-        let ahead : next bs j ≡ node bs (j + 1) = next-inner bs j (omega arith) in
-        ⊎-elim
-        (λ (q : (node bs i ≡ node bs j) × (next bs i ≡ next bs j)). c .different i j h d (q .0))
-        (λ (q : (node bs i ≡ next bs j) × (next bs i ≡ node bs j)).
-        let a : i ≡ j + 1 = one-place i (j + 1) h (omega arith) (q .0 ∙ ahead) in
-        ⊎-elim
-        (λ (last : i + 1 ≡ pairs bs).
-        let b : 0 ≡ j = one-place 0 j (omega arith) (omega arith) (sym (next-last bs i last) ∙ q .1) in
-        let one : 1 ≡ i = omega arith in
-        not-two (omega arith) (ap (kind bs) one ∙ e .0 ∙ ap (kind bs) (sym b)))
-        (λ (inner : i + 1 < pairs bs).
-        c .different (i + 1) j inner (omega arith) (sym (next-inner bs i inner) ∙ q .1))
-        (place-cases bs i h))
-        (e .1)
-
     -- the dominance edge at i starts from the leaf x, and where it goes to
     from-leaf-at : (x i : ℕ) → leaf g x ≡ true → i < pairs bs → dominanceAt bs x i ≡ true
         → ((node bs i ≡ x) × Adding M l r x (next bs i)) ⊎ ((next bs i ≡ x) × Adding M l r x (node bs i))
     from-leaf-at x i f h t =
-        let three : kind bs i ≡ 3 = dominance-kind bs x i t in
+        let three : kind bs i ≡ 3 = dominance-at bs x i .0 t .0 in
         ⊎-elim
         (λ (q : (kind bs i ≡ 2) × EitherWay (TreeEdge g) (node bs i) (next bs i)). absurd (omega arith))
-        (λ (q : (kind bs i ≡ 3) × EitherWay (Adding M l r) (node bs i) (next bs i)). from-leaf x (node bs i) (next bs i) f (q .1) (dominance-end bs x i t))
+        (λ (q : (kind bs i ≡ 3) × EitherWay (Adding M l r) (node bs i) (next bs i)). from-leaf x (node bs i) (next bs i) f (q .1) (dominance-at bs x i .0 t .1))
         (step-at i h)
 
     one-at-leaf : (x : ℕ) → leaf g x ≡ true → (i j : ℕ) → i < pairs bs → j < i → dominanceAt bs x i ≡ true → dominanceAt bs x j ≡ true → ⊥
     one-at-leaf x f i j h d t u =
-        edges-differ i j h d (dominance-kind bs x i t ∙ sym (dominance-kind bs x j u), same-ends (from-leaf-at x i f h t) (from-leaf-at x j f (omega arith) u))
+        edges-differ bs (c .different) not-two i j h d (dominance-at bs x i .0 t .0 ∙ sym (dominance-at bs x j .0 u .0), same-ends (from-leaf-at x i f h t) (from-leaf-at x j f (omega arith) u))
       where
         same-ends : ((node bs i ≡ x) × Adding M l r x (next bs i)) ⊎ ((next bs i ≡ x) × Adding M l r x (node bs i))
             → ((node bs j ≡ x) × Adding M l r x (next bs j)) ⊎ ((next bs j ≡ x) × Adding M l r x (node bs j))
@@ -211,7 +142,7 @@ module _ (g : Graph) (s : Shaped g) (M : ℕ → ℕ → Type 0) (l r : ℕ) (k 
     spelt-cycle =
         let nodes = all-apart (pairs bs) (λ i j. eqb (node bs i) (node bs j)) (λ i j h d t. c .different i j h d (eqb-true (node bs i) (node bs j) t)) in
         let joints = all-every (pairs bs) (λ i. joined g (kind bs i) (node bs i) (next bs i)) joined-at in
-        let edges = all-apart (pairs bs) (sameEdge bs) (λ i j h d t. edges-differ i j h d (same-edge bs i j .0 t)) in
+        let edges = all-apart (pairs bs) (sameEdge bs) (λ i j h d t. edges-differ bs (c .different) not-two i j h d (same-edge bs i j .0 t)) in
         rw (c .even, le-leb 2 (pairs bs) (c .two), nodes, joints, edges)
 
     spelt-leaves : hypernormal g bs ≡ true

@@ -1,11 +1,12 @@
 -- Laws of lists of edges: which edges are among them, which nodes they enter and leave, and who is whose parent.
 -- A list with no two entries to one node gives each node one parent. A list in which no edge stands twice, between
 -- numbers below n, is as long as the number of pairs among it; so its length depends only on which pairs those are.
-use Prim.Native.Nat.{ℕ, zero, suc, _+_, _<_}
+use Prim.Native.Nat.{ℕ, zero, suc, _+_, _*_, _≤_, _<_}
 use mathlib.Core.Path.{_≡_, refl, sym, _∙_}
 use mathlib.Core.List.{List, [], _∷_}
-use mathlib.Core.Bool.{Bool, true, false, not, _&&_, true≢false, false≢true}
+use mathlib.Core.Bool.{true, false, not, _&&_, true≢false, false≢true}
 use mathlib.Core.Logic.{_⊎_, inl, inr, ⊎-elim}
+use native.Mathlib.Nat.{suc-mul}
 use native.Mathlib.Omega.{arith}
 use lib.Dec.{eqb}
 use lib.ListN.{length}
@@ -158,6 +159,27 @@ sum-one-more (suc n) f g k h e s =
     let same : f n ≡ g n = s n (λ x. omega arith) in
     omega arith)
     (last-or-below h)
+
+pub sum-mono : (n : ℕ) (f g : ℕ → ℕ) → ((k : ℕ) → k < n → f k ≤ g k) → sum n f ≤ sum n g
+unfolding sum
+sum-mono zero f g h = omega arith
+sum-mono (suc n) f g h = omega (arith, sum-mono n f g (λ k l. h k (omega arith)), h n (omega arith))
+
+pub sum-grows : (n : ℕ) (f g : ℕ → ℕ) (i : ℕ) → ((k : ℕ) → k < n → f k ≤ g k) → i < n → f i < g i → sum n f < sum n g
+unfolding sum
+sum-grows zero f g i h l e = absurd (omega arith)
+sum-grows (suc n) f g i h l e =
+    ⊎-elim
+    (λ (j : i ≡ n).
+    let last : f n < g n = rw j at e in
+    omega (arith, sum-mono n f g (λ k b. h k (omega arith))))
+    (λ (b : i < n). omega (arith, sum-grows n f g i (λ k b. h k (omega arith)) b e, h n (omega arith)))
+    (last-or-below l)
+
+pub sum-bound : (n m : ℕ) (f : ℕ → ℕ) → ((k : ℕ) → k < n → f k ≤ m) → sum n f ≤ n * m
+unfolding sum
+sum-bound zero m f h = omega arith
+sum-bound (suc n) m f h = rw (suc-mul n m) (omega (arith, sum-bound n m f (λ k l. h k (omega arith)), h n (omega arith)))
 
 -- how many pairs of numbers below n are among the edges
 unfoldable pub total : ℕ → List Edge → ℕ

@@ -3,22 +3,23 @@
 -- In a solved form one of the two leaves is above the other's root, and never both (`choice-splits`, `choice-disjoint`);
 -- so the solved forms are those of the two graphs with that edge added. Neither edge was in the descent relation
 -- (`choice-grows`), so its number of pairs grows with each choice, and it is at most the square of the number of nodes.
-use Prim.Native.Nat.{ℕ, zero, suc, _*_, _≤_, _<_}
+use Prim.Native.Nat.{ℕ, _*_, _≤_, _<_}
 use mathlib.Core.Path.{_≡_, refl, sym, ap, subst, subst₃, _∙_}
 use mathlib.Core.List.{List}
 use mathlib.Core.Bool.{Bool, true, false, _&&_}
 use mathlib.Core.Logic.{_⊎_, inl, inr, ⊎-elim, _↔_}
-use native.Mathlib.Nat.{eq-or-lt-of-le, suc-mul}
+use native.Mathlib.Nat.{eq-or-lt-of-le}
 use native.Mathlib.Omega.{arith}
 use lib.Dec.{ltb}
 use borrow.Author.Tests.{ltb-true, ltb-false}
 use Rattle.finite.specs.Below.{count, least}
-use Rattle.finite.proofs.Laws.{by-bool, last-or-below, and-both, and-intro, count-le, least-at, least-below, least-holds}
+use Rattle.finite.proofs.Laws.{by-bool, and-both, and-intro, count-le, least-at, least-below, least-holds}
 use Rattle.graph.specs.Graph.{Graph, root, leaf, own, Descent, one, more}
 use Rattle.graph.specs.Order.{Kept, Choice, adding}
 use Rattle.graph.specs.Placing.{Below, SolvedForm}
-use Rattle.layout.proofs.Edges.{sum}
+use Rattle.layout.proofs.Edges.{sum, sum-grows, sum-bound}
 use Rattle.finite.proofs.Laws.{not-holding}
+use Rattle.finite.proofs.Counting.{count-mono, count-grows}
 use Rattle.layout.proofs.Spelling.{leaf-below, root-below}
 use Rattle.paths.proofs.Shape.{Shaped, adding-shaped}
 use Rattle.paths.proofs.Closure.{path-trans, path-map, descent-added, added-edge}
@@ -272,53 +273,6 @@ passes g s n v a b k j d =
 pub choice-grows : (g : Graph) → Shaped g → Loopless g → {v a b : ℕ} → Choice g v a b → (Descent g a (own g b) → ⊥) × (Descent g b (own g a) → ⊥)
 choice-grows g s n {v} {a} {b} c = (passes g s n v a b (c .first) (c .second), passes g s n v b a (c .second) (c .first))
 
-count-mono : (n : ℕ) (p q : ℕ → Bool) → ((k : ℕ) → p k ≡ true → q k ≡ true) → count n p ≤ count n q
-unfolding count
-count-mono zero p q f = omega arith
-count-mono (suc n) p q f =
-    let ih : count n p ≤ count n q = count-mono n p q f in
-    by-bool (p n)
-    (λ (t : p n ≡ true). rw (t, f n t) (omega arith))
-    (λ (t : p n ≡ false). rw t (omega arith))
-
-pub count-grows : (n : ℕ) (p q : ℕ → Bool) → ((k : ℕ) → p k ≡ true → q k ≡ true) → (k : ℕ) → k < n → p k ≡ false → q k ≡ true → count n p < count n q
-unfolding count
-count-grows zero p q f k h e t = absurd (omega arith)
-count-grows (suc n) p q f k h e t =
-    ⊎-elim
-    (λ (i : k ≡ n).
-    let le : count n p ≤ count n q = count-mono n p q f in
-    let pn : p n ≡ false = rw i at e in
-    let qn : q n ≡ true = rw i at t in
-    rw (pn, qn) (omega arith))
-    (λ (l : k < n).
-    let ih : count n p < count n q = count-grows n p q f k l e t in
-    by-bool (p n)
-    (λ (x : p n ≡ true). rw (x, f n x) (omega arith))
-    (λ (x : p n ≡ false). rw x (omega arith)))
-    (last-or-below h)
-
-sum-mono : (n : ℕ) (f g : ℕ → ℕ) → ((k : ℕ) → f k ≤ g k) → sum n f ≤ sum n g
-unfolding sum
-sum-mono zero f g h = omega arith
-sum-mono (suc n) f g h = omega (arith, sum-mono n f g h, h n)
-
-sum-grows : (n : ℕ) (f g : ℕ → ℕ) → ((k : ℕ) → f k ≤ g k) → (k : ℕ) → k < n → f k < g k → sum n f < sum n g
-unfolding sum
-sum-grows zero f g h k l e = absurd (omega arith)
-sum-grows (suc n) f g h k l e =
-    ⊎-elim
-    (λ (i : k ≡ n).
-    let lt : f n < g n = rw i at e in
-    omega (arith, sum-mono n f g h))
-    (λ (b : k < n). omega (arith, sum-grows n f g h k b e, h n))
-    (last-or-below l)
-
-sum-le : (n m : ℕ) (f : ℕ → ℕ) → ((k : ℕ) → f k ≤ m) → sum n f ≤ n * m
-unfolding sum
-sum-le zero m f h = omega arith
-sum-le (suc n) m f h = rw suc-mul (omega (arith, sum-le n m f h, h n))
-
 -- how many pairs the descent relation has
 unfoldable pub pairs : Graph → ℕ
 unfolding sum count descends
@@ -326,7 +280,7 @@ pairs g = sum (g .nodes) (λ u. count (g .nodes) (descends g u))
 
 pub pairs-le : (g : Graph) → pairs g ≤ g .nodes * g .nodes
 unfolding pairs
-pairs-le g = sum-le (g .nodes) (g .nodes) (λ u. count (g .nodes) (descends g u)) (λ u. count-le (g .nodes) (descends g u))
+pairs-le g = sum-bound (g .nodes) (g .nodes) (λ u. count (g .nodes) (descends g u)) (λ u _. count-le (g .nodes) (descends g u))
 
 -- an edge that was no descent makes more of them
 pub pairs-grow : (g : Graph) → Shaped g → (a r : ℕ) → leaf g a ≡ true → root g r ≡ true → (Descent g a r → ⊥) → pairs g < pairs (adding g a r)
@@ -336,8 +290,8 @@ pairs-grow g s a r ha hr fresh =
     let t : Shaped h = adding-shaped g a r s ha hr in
     let more : (u v : ℕ) → descends g u v ≡ true → descends h u v ≡ true = λ u v x. descends-iff h t u v .1 (descent-added g a r (descends-iff g s u v .0 x)) in
     sum-grows (g .nodes) (λ u. count (g .nodes) (descends g u)) (λ u. count (g .nodes) (descends h u))
-    (λ u. count-mono (g .nodes) (descends g u) (descends h u) (more u)) a (leaf-below g a ha)
-    (count-grows (g .nodes) (descends g a) (descends h a) (more a) r (root-below g r hr)
+    a (λ u _. count-mono (g .nodes) (descends g u) (descends h u) (λ v _. more u v)) (leaf-below g a ha)
+    (count-grows (g .nodes) (descends g a) (descends h a) r (λ v _. more a v) (root-below g r hr)
     (not-holding (descends g a r) (λ x. fresh (descends-iff g s a r .0 x)))
     (descends-iff h t a r .1 (added-edge g a r)))
 

@@ -1,5 +1,6 @@
 pub mod Redundancy
 pub mod Choosing
+pub mod Between
 pub mod Settled
 pub mod Entries
 pub mod Readings

@@ -3,25 +3,22 @@
 -- Graphs are alike that have the same nodes, tree edges and descents. A graph without a cycle is alike to what Rule 2
 -- leaves of it, as a descent with a node between is two with fewer nodes between. Which edges stay, the choice, and what
 -- lies below what in a placing are the same in alike graphs; and alike graphs with one edge added are alike.
-use Prim.Native.Nat.{ℕ, zero, suc, _<_}
+use Prim.Native.Nat.{ℕ}
 use mathlib.Core.Path.{_≡_, refl, sym, subst, subst₂, _∙_}
 use mathlib.Core.List.{List}
-use mathlib.Core.Bool.{Bool, true, false, _&&_, true≢false}
+use mathlib.Core.Bool.{true}
 use mathlib.Core.Logic.{_⊎_, inl, inr, ⊎-elim, _↔_}
-use native.Mathlib.Omega.{arith}
-use Rattle.finite.specs.Below.{count}
-use Rattle.finite.proofs.Laws.{by-bool, not-holding}
 use Rattle.graph.specs.Graph.{Edge, Graph, among, root, leaf, own, TreeEdge, DominanceEdge, GraphEdge, Descent, one}
 use Rattle.graph.specs.Order.{Kept, Choice, adding, Before, halves, within-first, within-second}
 use Rattle.graph.specs.Placing.{hangs, Below, SolvedForm}
 use Rattle.layout.proofs.Tables.{table, among-table, table-among}
 use Rattle.paths.proofs.Shape.{Shaped, same-trees}
-use Rattle.paths.proofs.Closure.{path-trans, path-map, path-first, path-last, descent-adding}
-use Rattle.paths.proofs.Table.{and-holds, descentTable, descends, descends-iff, descent-within}
+use Rattle.paths.proofs.Closure.{path-trans, path-map, path-first, descent-adding}
 use Rattle.paths.proofs.Fragments.{leaf-childless}
 use Rattle.paths.proofs.Forests.{solved-adding}
-use Rattle.listing.proofs.Redundancy.{Loopless, NoneBetween, between, kept, kept-iff, kept-holds, kept-within, between-iff}
-use Rattle.listing.proofs.Choosing.{first-shaped, second-shaped, count-grows}
+use Rattle.listing.proofs.Redundancy.{Loopless, NoneBetween, between, kept, kept-iff, kept-holds, kept-within}
+use Rattle.listing.proofs.Choosing.{first-shaped, second-shaped}
+use Rattle.listing.proofs.Between.{descent-by-edges}
 use Rattle.listing.proofs.Guided.{solved-loopless}
 
 -- "Remove redundant dominance edges (Rule 2)": h is g without them
@@ -192,23 +189,6 @@ reduced-shaped {g} {h} x s =
     subst Shaped (over-same g h (x .same-nodes) (x .same-tree))
     (same-trees g (h .dominance) s (λ l r d. s .leaf-to-root l r (x .kept-edges l r .0 d .0)))
 
--- the nodes between u and v
-
-inside : Graph → ℕ → ℕ → ℕ → Bool
-inside g u v x = descends g u x && descends g x v
-
-inside-iff : (g : Graph) → Shaped g → (u v x : ℕ) → (inside g u v x ≡ true) ↔ (Descent g u x × Descent g x v)
-unfolding inside
-inside-iff g s u v x = and-holds (descends g u x) (descends g x v) (descends-iff g s u x) (descends-iff g s x v)
-
--- fewer nodes lie between u and v than between y and z, where those are between y and z too and x is so besides
-fewer-inside : (g : Graph) → Shaped g → (u v y z x : ℕ) → ((w : ℕ) → Descent g u w → Descent g w v → Descent g y w × Descent g w z) → Descent g y x → Descent g x z → (Descent g u x × Descent g x v → ⊥) → count (g .nodes) (inside g u v) < count (g .nodes) (inside g y z)
-fewer-inside g s u v y z x f a b out =
-    count-grows (g .nodes) (inside g u v) (inside g y z)
-    (λ w t. let d = inside-iff g s u v w .0 t in inside-iff g s y z w .1 (f w (d .0) (d .1))) x (descent-within g s a .1)
-    (not-holding (inside g u v x) (λ t. out (inside-iff g s u v x .0 t)))
-    (inside-iff g s y z x .1 (a, b))
-
 module _ {g h : Graph} (y : Reduced g h) (s : Shaped g) (n : Loopless g) where
   reduced-edge : (u v : ℕ) → GraphEdge h u v → GraphEdge g u v
   reduced-edge u v =
@@ -223,33 +203,15 @@ module _ {g h : Graph} (y : Reduced g h) (s : Shaped g) (n : Loopless g) where
       (λ (t : TreeEdge g u v). inl (subst (λ (z : List Edge). among z u v ≡ true) (y .same-tree) t))
       (λ (d : DominanceEdge g u v). inr (y .kept-edges u v .1 (kept-iff g s n u v .1 (d, free))))
 
-  direct-descent : (u v : ℕ) → NoneBetween g u v → Descent g u v → Descent h u v
-  direct-descent u v free d =
-      ⊎-elim
-      (λ (e : GraphEdge g u v). one (direct-edge u v free e))
-      (λ (x : (w : ℕ) × Descent g u w × GraphEdge g w v). absurd (free (x .0) (x .1) (one (x .2))))
-      (path-last d)
-
-  -- a descent with a node between is two with fewer nodes between, so each is a path of edges that stay
-  descent-stays : (k u v : ℕ) → count (g .nodes) (inside g u v) < k → Descent g u v → Descent h u v
-  descent-stays zero u v b d = absurd (omega arith)
-  descent-stays (suc k) u v b d =
-      by-bool (between (g .nodes) (descentTable g) u v)
-      (λ (t : between (g .nodes) (descentTable g) u v ≡ true).
-      let m = between-iff g s u v .0 t in
-      let x : ℕ = m .0 in
-      let upper : count (g .nodes) (inside g u x) < count (g .nodes) (inside g u v) = fewer-inside g s u x u v x (λ w a c. (a, path-trans c (m .2))) (m .1) (m .2) (λ c. n x (c .1)) in
-      let lower : count (g .nodes) (inside g x v) < count (g .nodes) (inside g u v) = fewer-inside g s x v u v x (λ w a c. (path-trans (m .1) a, c)) (m .1) (m .2) (λ c. n x (c .0)) in
-      path-trans (descent-stays k u x (omega arith) (m .1)) (descent-stays k x v (omega arith) (m .2)))
-      (λ (t : between (g .nodes) (descentTable g) u v ≡ false).
-      direct-descent u v (λ x a c. true≢false (sym (between-iff g s u v .1 (x, a, c)) ∙ t)) d)
-
   reduced-alike : Alike g h
   reduced-alike =
       record {
         same-nodes = y .same-nodes;
         same-tree = y .same-tree;
-        same-descent = λ u v. (descent-stays (suc (count (g .nodes) (inside g u v))) u v (omega arith), path-map reduced-edge);
+        same-descent = λ u v. (
+          descent-by-edges g s n (Descent h) (λ u x v. path-trans) (λ u v free e. one (direct-edge u v free e)) u v,
+          path-map reduced-edge,
+        );
       }
 
 -- every dominance edge of what Rule 2 leaves stays in it, so that a choice of it is among all of them

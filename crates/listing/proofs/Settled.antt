@@ -5,26 +5,26 @@
 use Prim.Native.Nat.{ℕ, zero, suc, _≤_, _<_}
 use mathlib.Core.Path.{_≡_, refl, sym, ap, subst, _∙_}
 use mathlib.Core.List.{List}
-use mathlib.Core.Bool.{Bool, true, false, cond, _&&_, _||_, true≢false}
-use mathlib.Core.Logic.{_⊎_, inl, inr, ⊎-elim, _↔_}
+use mathlib.Core.Bool.{Bool, true, false, cond, _&&_, _||_}
+use mathlib.Core.Logic.{_⊎_, inl, inr, ⊎-elim}
 use native.Mathlib.Nat.{le-of-suc-le-suc}
 use native.Mathlib.Omega.{arith}
 use lib.Dec.{eqb, ltb}
 use lib.ListN.{length, getD}
 use borrow.Author.Tests.{ltb-true, lt-ltb, eq-eqb}
-use Rattle.finite.specs.Below.{all, count}
+use Rattle.finite.specs.Below.{all}
 use Rattle.finite.proofs.Laws.{by-bool, or-left, or-right, and-intro, all-every, least-at, least-holds}
 use Rattle.graph.specs.Graph.{Graph, root, leaf, none, TreeEdge, DominanceEdge, GraphEdge, Descent, one}
 use Rattle.graph.specs.Order.{Kept}
 use Rattle.graph.specs.Placing.{at, placing, hangs, Below, Contains, SolvedForm}
-use Rattle.finite.proofs.Laws.{not-holding}
 use Rattle.layout.proofs.Spelling.{leaf-below, root-below}
 use Rattle.paths.proofs.Shape.{Shaped}
-use Rattle.paths.proofs.Closure.{path-trans, path-map, path-last}
-use Rattle.paths.proofs.Table.{listed as row, and-holds, descentTable, descends, descends-iff, descent-within, hangs-parts, hangs-intro}
+use Rattle.paths.proofs.Closure.{path-trans, path-map}
+use Rattle.paths.proofs.Table.{listed as row, hangs-parts, hangs-intro}
 use Rattle.paths.proofs.Forests.{acyclic-forest}
-use Rattle.listing.proofs.Redundancy.{Loopless, NoneBetween, between, keptTable, kept, kept-iff, kept-holds, kept-within, between-iff}
-use Rattle.listing.proofs.Choosing.{lowestAbove, Unforked, count-grows}
+use Rattle.listing.proofs.Redundancy.{Loopless, NoneBetween, between, keptTable, kept, kept-iff, kept-holds, kept-within}
+use Rattle.listing.proofs.Choosing.{lowestAbove, Unforked}
+use Rattle.listing.proofs.Between.{descent-by-edges}
 
 -- a number below n, and `none` for what is not
 unfoldable within : ℕ → ℕ → ℕ
@@ -58,27 +58,6 @@ settled-length g = length-row (g .nodes) (λ r. within (g .nodes) (lowestAbove (
 settled-at : (g : Graph) (r : ℕ) → r < g .nodes → at (settled g) r ≡ within (g .nodes) (lowestAbove (g .nodes) (keptTable g) r)
 unfolding settled settledBy
 settled-at g r h = getD-row (g .nodes) (λ r. within (g .nodes) (lowestAbove (g .nodes) (keptTable g) r)) r h
-
--- the nodes between u and v, and how many they are
-
-inside : Graph → ℕ → ℕ → ℕ → Bool
-inside g u v x = descends g u x && descends g x v
-
-interval : Graph → ℕ → ℕ → ℕ
-interval g u v = count (g .nodes) (inside g u v)
-
-inside-iff : (g : Graph) → Shaped g → (u v x : ℕ) → (inside g u v x ≡ true) ↔ (Descent g u x × Descent g x v)
-unfolding inside
-inside-iff g s u v x = and-holds (descends g u x) (descends g x v) (descends-iff g s u x) (descends-iff g s x v)
-
--- fewer nodes lie between u and v than between y and z, where those are between y and z too and x is so besides
-interval-grows : (g : Graph) → Shaped g → (u v y z x : ℕ) → ((w : ℕ) → Descent g u w → Descent g w v → Descent g y w × Descent g w z) → Descent g y x → Descent g x z → (Descent g u x × Descent g x v → ⊥) → interval g u v < interval g y z
-unfolding interval
-interval-grows g s u v y z x f a b out =
-    count-grows (g .nodes) (inside g u v) (inside g y z)
-    (λ w t. let d = inside-iff g s u v w .0 t in inside-iff g s y z w .1 (f w (d .0) (d .1))) x (descent-within g s a .1)
-    (not-holding (inside g u v x) (λ t. out (inside-iff g s u v x .0 t)))
-    (inside-iff g s y z x .1 (a, b))
 
 module _ (g : Graph) (s : Shaped g) (n : Loopless g) where
   -- at each node stands `none`, or a leaf with an edge that stays to it
@@ -141,28 +120,8 @@ module _ (g : Graph) (s : Shaped g) (n : Loopless g) where
         (λ (t : TreeEdge g u v). one (inl t))
         (λ (d : DominanceEdge g u v). one (inr (kept-hangs u v (kept-iff g s n u v .1 (d, none-there)))))
 
-    descent-direct : (u v : ℕ) → NoneBetween g u v → Descent g u v → Below g (settled g) u v
-    descent-direct u v none-there d =
-        ⊎-elim
-        (λ (e : GraphEdge g u v). edge-settled u v none-there e)
-        (λ (x : (w : ℕ) × Descent g u w × GraphEdge g w v). absurd (none-there (x .0) (x .1) (one (x .2))))
-        (path-last d)
-
-    descent-within-size : (k u v : ℕ) → interval g u v < k → Descent g u v → Below g (settled g) u v
-    descent-within-size zero u v h d = absurd (omega arith)
-    descent-within-size (suc k) u v h d =
-        by-bool (between (g .nodes) (descentTable g) u v)
-        (λ (t : between (g .nodes) (descentTable g) u v ≡ true).
-        let m = between-iff g s u v .0 t in
-        let x : ℕ = m .0 in
-        let upper : interval g u x < interval g u v = interval-grows g s u x u v x (λ w a b. (a, path-trans b (m .2))) (m .1) (m .2) (λ y. n x (y .1)) in
-        let lower : interval g x v < interval g u v = interval-grows g s x v u v x (λ w a b. (path-trans (m .1) a, b)) (m .1) (m .2) (λ y. n x (y .0)) in
-        path-trans (descent-within-size k u x (omega arith) (m .1)) (descent-within-size k x v (omega arith) (m .2)))
-        (λ (t : between (g .nodes) (descentTable g) u v ≡ false).
-        descent-direct u v (λ x a b. true≢false (sym (between-iff g s u v .1 (x, a, b)) ∙ t)) d)
-
     pub descent-settled : Contains (Below g (settled g)) (Descent g)
-    descent-settled u v d = descent-within-size (suc (interval g u v)) u v (omega arith) d
+    descent-settled = descent-by-edges g s n (Below g (settled g)) (λ u x v. path-trans) edge-settled
 
     pub settled-solved : SolvedForm g (settled g)
     settled-solved =

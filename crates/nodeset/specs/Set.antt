@@ -26,6 +26,9 @@ Empty r = (j : ℕ) → mem r j ≡ false
 abbrev pub Only : ℕ → NodeSet → Type 0
 Only k r = (j : ℕ) → mem r j ≡ eqb j k
 
+abbrev pub OfByte : ℕ → NodeSet → Type 0
+OfByte byte r = (j : ℕ) → mem r j ≡ (eqb j byte && ltb byte 128)
+
 abbrev pub Inserted : NodeSet → ℕ → NodeSet → Type 0
 Inserted s k r = (j : ℕ) → mem r j ≡ (eqb j k || mem s j)
 

@@ -3,7 +3,7 @@ ghost use mathlib.Core.Path.{_≡_};
 ghost use mathlib.Core.Bool.{not};
 ghost use Prim.Native.Nat.{_<_};
 ghost use Rattle.finite.specs.Below.{any, count, least};
-ghost use Rattle.nodeset.specs.Set.{mem, Empty, Only, Inserted, Removed, Union, Intersection, Difference};
+ghost use Rattle.nodeset.specs.Set.{mem, Empty, Only, OfByte, Inserted, Removed, Union, Intersection, Difference};
 
 pub struct NodeSet {
     pub low: u64,
@@ -32,6 +32,17 @@ impl NodeSet {
                 low: 0,
                 high: 1 << (k - 64),
             }
+        }
+    }
+
+    // The set of a byte's node, empty for a byte that is no node.
+    pub fn of_byte(byte: u8) -> NodeSet
+        ensures { λ r. ⌜ OfByte byte r ⌝ }
+    {
+        if byte < 128 {
+            NodeSet::only(byte as usize)
+        } else {
+            NodeSet::empty()
         }
     }
 

@@ -10,7 +10,7 @@ ghost use Prim.Native.Nat.{_≤_};
 ghost use lib.ListN.{length};
 ghost use Rattle.graph.specs.Order.{countAnswer};
 ghost use Rattle.listing.proofs.Readings.{listed};
-ghost use Rattle.descent.specs.Closing.{Long};
+ghost use Rattle.rows.specs.Rows.{Long};
 ghost use Rattle.walk.specs.Decisions.{Room};
 ghost use Rattle.walk.specs.Given.{Sheet};
 ghost use Rattle.numbered.specs.Numbered.{Reaches, Finds};
@@ -19,7 +19,7 @@ ghost use Rattle.numbered.specs.Numbered.{Reaches, Finds};
 pub const LAST: usize = 65535;
 
 // A choice adds a pair to the descent relation, so no walk makes more of them than there are pairs.
-const PAIRS: usize = 16384;
+pub const PAIRS: usize = 16384;
 
 // The depth at a reading, or how many readings there are.
 pub enum Reached {

@@ -10,6 +10,7 @@ use lib.ListN.{length, take, drop, length-append, length-take}
 use lib.Seq.{sets-eq, take-at, take-all, take-length}
 use borrow.Author.Tests.{leb-true, leb-false}
 use Rattle.finite.specs.Below.{spread}
+use Rattle.finite.specs.Stores.{Written}
 use Rattle.finite.proofs.Laws.{by-bool, spread-ext}
 use Rattle.nodeset.specs.declared.NodeSet.{NodeSet}
 use Rattle.graph.specs.Graph.{Graph, root, none}
@@ -20,7 +21,7 @@ use Rattle.listing.proofs.Choosing.{Unforked}
 use Rattle.listing.proofs.Readings.{listed}
 use Rattle.listing.proofs.Settled.{settled}
 use Rattle.fork.specs.Given.{Given}
-use Rattle.text.specs.Lines.{Written, lineIn}
+use Rattle.text.specs.Lines.{lineIn}
 use Rattle.text.proofs.Lines.{line-is}
 use Rattle.walking.specs.Walk.{Decision, graphAt}
 use Rattle.walking.proofs.Decisions.{graph-nodes, graph-root}

@@ -1,16 +1,13 @@
--- The guided descent, step by step: the root of a fragment, the half that the placing is in, the graph after a choice, and
+-- The guided descent, step by step: the half that the placing is in, the graph after a choice, and
 -- the end.
-use Prim.Native.Nat.{ℕ, zero, suc, _+_, _-_, _*_, _≤_, _<_}
+use Prim.Native.Nat.{ℕ, _+_, _-_, _*_, _≤_, _<_}
 use mathlib.Core.Path.{_≡_, refl, sym, subst, _∙_}
 use mathlib.Core.List.{List}
-use mathlib.Core.Bool.{Bool, true, false, not, true≢false}
+use mathlib.Core.Bool.{Bool, true, false, true≢false}
 use mathlib.Core.Logic.{⊎-elim, _↔_}
 use native.Mathlib.Omega.{arith}
-use lib.Dec.{eqb}
-use lib.ListN.{getD}
-use borrow.Author.Tests.{eq-eqb, ne-eqb}
 use Rattle.nodeset.specs.declared.NodeSet.{NodeSet}
-use Rattle.graph.specs.Graph.{Graph, Descent, entered, parent, top, own, none}
+use Rattle.graph.specs.Graph.{Graph, Descent, own}
 use Rattle.graph.specs.Order.{Choice, adding}
 use Rattle.graph.specs.Placing.{Below, SolvedForm, Reading}
 use Rattle.paths.proofs.Shape.{Shaped}
@@ -19,47 +16,18 @@ use Rattle.listing.proofs.Choosing.{Unforked, pairs, pairs-le, first-shaped, se
 use Rattle.listing.proofs.Settled.{settled}
 use Rattle.listing.proofs.Readings.{reading-least}
 use Rattle.listing.proofs.Guided.{Leads, arrived, to-first, to-second, solved-loopless, leads-solved, leads-within, leads-reading}
-use Rattle.sheet.proofs.Turns.{parent-tells}
 use Rattle.rows.specs.Rows.{inRow, Rows}
 use Rattle.descent.specs.Closing.{Extended}
 use Rattle.descent.proofs.Laws.{rows-map, adding-rows}
-use Rattle.fork.specs.Given.{TreeOf, Ends}
+use Rattle.trees.specs.Trees.{TreeOf}
+use Rattle.fork.specs.Given.{Ends}
 use Rattle.fork.specs.Chosen.{Bounded, Chosen}
 use Rattle.fork.specs.declared.choose.Fork.{Fork}
 use Rattle.fork.specs.declared.choose.Fork.the-variants.{None, At}
-use Rattle.fork.proofs.Trees.{tree-adding, ends-adding}
+use Rattle.trees.proofs.Held.{tree-adding}
+use Rattle.fork.proofs.Trees.{ends-adding}
 use Rattle.placings.specs.Guide.{Into, HalfOf, Standing, Arrived}
 use Rattle.placings.specs.declared.guide.Edge.{Edge}
-
--- one edge up
-
-module _ (g : Graph) (s : Shaped g) (n : ℕ) (parents : List ℕ) (t : TreeOf g n parents) (v : ℕ) (h : v < n) where
-  parent-of : getD parents v 0 ≡ parent (g .tree) v
-  parent-of = t .parent-is v (omega (arith, t .nodes, s .few-nodes))
-
-  has-parent : entered (g .tree) v ≡ not (eqb (getD parents v 0) none)
-  has-parent = rw parent-of (parent-tells (g .nodes) (g .tree) v (s .few-nodes) (s .tree-within))
-
-  pub top-ends : (k : ℕ) → getD parents v 0 ≡ none → top k (g .tree) v ≡ v
-  unfolding top
-  top-ends zero e = refl
-  top-ends (suc k) e = rw (has-parent, eq-eqb (getD parents v 0) none e)
-
-  pub top-goes-on : (k : ℕ) → 0 < k → (getD parents v 0 ≡ none → ⊥) → top (k - 1) (g .tree) (getD parents v 0) ≡ top k (g .tree) v
-  unfolding top
-  top-goes-on zero l e = absurd (omega arith)
-  top-goes-on (suc k) l e =
-      let less : suc k - 1 ≡ k = omega arith in
-      rw (less, has-parent, ne-eqb (getD parents v 0) none e, parent-of)
-
-pub top-stops : (g : Graph) (k v : ℕ) → k ≤ 0 → top k (g .tree) v ≡ v
-unfolding top
-top-stops g zero v h = refl
-top-stops g (suc k) v h = absurd (omega arith)
-
-pub top-own : (g : Graph) (n v : ℕ) → n ≡ g .nodes → top n (g .tree) v ≡ own g v
-unfolding own
-top-own g n v e = rw e
 
 -- the half that p is in
 

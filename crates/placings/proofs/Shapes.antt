@@ -11,7 +11,7 @@ use lib.Seq.{getD-take, ext-getD}
 use borrow.Author.Tests.{eq-eqb, ne-eqb, eqb-true, lt-ltb, le-ltb, ltb-true, ltb-false}
 use Rattle.finite.specs.Below.{any, all}
 use Rattle.finite.proofs.Laws.{by-bool, or-cases, or-comm, and-both, and-intro, and-false, not-not, any-more, any-at, any-found, any-false, all-at, all-every, all-fails, all-ext}
-use Rattle.nodeset.specs.Set.{mem, Intersection, Union}
+use Rattle.nodeset.specs.Set.{mem, OfByte, Intersection, Union}
 use Rattle.nodeset.specs.declared.NodeSet.{NodeSet}
 use Rattle.graph.specs.Graph.{Graph, DominanceEdge, root, leaf, none}
 use Rattle.graph.specs.Placing.{at, placing, hangs, Below, SolvedForm}
@@ -22,8 +22,8 @@ use Rattle.paths.proofs.Table.{hangs-parts, below-within}
 use Rattle.paths.proofs.Forests.{acyclic-forest, placing-cases, hanging-solved}
 use Rattle.rows.specs.Rows.{inRow, Rows, Tables}
 use Rattle.descent.specs.Closing.{Links}
-use Rattle.fork.specs.Given.{TreeOf, Ends}
-use Rattle.placings.specs.Tests.{fits, placingIn, outside, downwardIn, LeafSet, carried, again, singleIn}
+use Rattle.fork.specs.Given.{Ends}
+use Rattle.placings.specs.Tests.{fits, placingIn, outside, downwardIn, carried, again, singleIn}
 
 -- answers of a test that is asked the other way
 
@@ -109,9 +109,6 @@ placing-is g n leaves roots bytes e long =
 
 -- solved forms
 
-pub tree-of : {g : Graph} {n : ℕ} {parents heads-low heads-high : List ℕ} {edges : ℕ} → Tables g n parents heads-low heads-high edges → TreeOf g n parents
-tree-of t = record { nodes = t .nodes; parent-is = t .holds .parent-is }
-
 pub downward-every : (n : ℕ) (heads-low heads-high low high : List ℕ) → ((l : ℕ) → l < n → any 128 (outside heads-low heads-high low high l) ≡ false) → downwardIn n heads-low heads-high low high ≡ true
 unfolding downwardIn
 downward-every n heads-low heads-high low high f = all-every n (λ l. not (any 128 (outside heads-low heads-high low high l))) (λ l h. rw (f l h))
@@ -179,12 +176,12 @@ module _ (g : Graph) (n : ℕ) (parents heads-low heads-high low high : List ℕ
 abbrev pub Used : ℕ → List ℕ → NodeSet → Type 0
 Used v bytes used = (x : ℕ) → mem used x ≡ any v (carried bytes x)
 
-pub used-more : (v : ℕ) (bytes : List ℕ) (used leaf more : NodeSet) → Used v bytes used → LeafSet (at bytes v) leaf → Union leaf used more → Used (v + 1) bytes more
+pub used-more : (v : ℕ) (bytes : List ℕ) (used leaf more : NodeSet) → Used v bytes used → OfByte (at bytes v) leaf → Union leaf used more → Used (v + 1) bytes more
 used-more v bytes used leaf more is-used is-leaf is-more x =
     is-more x ∙ rw (is-used x, is-leaf x) (or-comm (carried bytes x v) (any v (carried bytes x)) ∙ sym (any-more v (carried bytes x)))
 
 -- some leaf is in both sets
-pub used-again : (v : ℕ) (bytes : List ℕ) (used leaf both : NodeSet) → Used v bytes used → LeafSet (at bytes v) leaf → Intersection used leaf both → any 128 (mem both) ≡ again bytes v
+pub used-again : (v : ℕ) (bytes : List ℕ) (used leaf both : NodeSet) → Used v bytes used → OfByte (at bytes v) leaf → Intersection used leaf both → any 128 (mem both) ≡ again bytes v
 used-again v bytes used leaf both is-used is-leaf is-both =
     let byte : ℕ = at bytes v in
     test-ext (any 128 (mem both)) (again bytes v)

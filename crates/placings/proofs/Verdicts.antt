@@ -13,12 +13,14 @@ use Rattle.graph.specs.Placing.{placing, Below, SolvedForm, Reading}
 use Rattle.paths.proofs.Shape.{Shaped, well-formed-shaped}
 use Rattle.sheet.specs.Judge.{RootSet}
 use Rattle.rows.specs.Rows.{inRow, Rows, Tables}
-use Rattle.fork.specs.Given.{TreeOf, Ends}
+use Rattle.trees.specs.Trees.{TreeOf}
+use Rattle.fork.specs.Given.{Ends}
 use Rattle.fork.proofs.Trees.{ends-of}
 use Rattle.placings.specs.Tests.{placingIn, downwardIn, singleIn}
 use Rattle.placings.specs.Answered.{Answered, Noes}
 use Rattle.placings.specs.declared.Answers.{Answers}
-use Rattle.placings.proofs.Shapes.{tree-of, placing-is, solved-is, single-is}
+use Rattle.trees.proofs.Held.{tree-of}
+use Rattle.placings.proofs.Shapes.{placing-is, solved-is, single-is}
 
 pub ends-here : {g : Graph} {n : ℕ} {parents heads-low heads-high : List ℕ} {edges : ℕ} → Tables g n parents heads-low heads-high edges → (leaves roots : NodeSet)
     → ((h : Graph) → Shaped h → TreeOf h n parents → (v : ℕ) → mem leaves v ≡ leaf h v) → RootSet n parents roots → Ends g n leaves roots

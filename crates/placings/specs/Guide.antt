@@ -10,7 +10,8 @@ use Rattle.listing.proofs.Choosing.{Unforked, pairs}
 use Rattle.listing.proofs.Guided.{Leads}
 use Rattle.listing.proofs.Settled.{settled}
 use Rattle.rows.specs.Rows.{Rows}
-use Rattle.fork.specs.Given.{TreeOf, Given}
+use Rattle.trees.specs.Trees.{TreeOf}
+use Rattle.fork.specs.Given.{Given}
 use Rattle.placings.specs.declared.guide.Edge.{Edge}
 
 abbrev pub Bounded : ℕ → Edge → Type 0

@@ -1,6 +1,5 @@
 -- The tests that the code makes, on bytes, sets and rows.
 use Prim.Native.Nat.{ℕ}
-use mathlib.Core.Path.{_≡_}
 use mathlib.Core.List.{List}
 use mathlib.Core.Bool.{Bool, not, _&&_, _||_}
 use lib.Dec.{eqb, ltb}
@@ -24,9 +23,6 @@ outside heads-low heads-high low high l v = inRow heads-low heads-high l v && no
 
 unfoldable pub downwardIn : ℕ → List ℕ → List ℕ → List ℕ → List ℕ → Bool
 downwardIn n heads-low heads-high low high = all n (λ l. not (any 128 (outside heads-low heads-high low high l)))
-
-abbrev pub LeafSet : ℕ → NodeSet → Type 0
-LeafSet byte r = (x : ℕ) → mem r x ≡ (eqb x byte && ltb byte 128)
 
 -- u hangs under the leaf x
 abbrev pub carried : List ℕ → ℕ → ℕ → Bool

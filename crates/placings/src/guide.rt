@@ -1,13 +1,13 @@
 // Is a solved form a reading? From the graph follow at each choice of Rule 3 the half that the solved form is in: it is a
 // reading if the way ends in it.
 use descent::add_edge;
-use descent::descends;
 use descent::graph_rows;
 use fork::choose::Fork;
 use fork::choose::choose;
 use fork::settle::settle;
 use nodeset::NodeSet;
-use sheet::NONE;
+use rows::in_row;
+use trees::own;
 ghost use mathlib.Core.Path.{_≡_};
 ghost use mathlib.Core.Bool.{true, false};
 ghost use mathlib.Core.List.{List};
@@ -15,39 +15,22 @@ ghost use mathlib.Core.Logic.{_↔_};
 ghost use Prim.Native.Nat.{ℕ, _-_, _*_, _+_, _≤_, _<_};
 ghost use lib.ListN.{length, take};
 ghost use Rattle.nodeset.specs.Set.{mem};
-ghost use Rattle.graph.specs.Graph.{Graph, own as ownOf};
+ghost use Rattle.graph.specs.Graph.{Graph};
 ghost use Rattle.graph.specs.Order.{Choice};
 ghost use Rattle.graph.specs.Placing.{Below, SolvedForm, Reading};
 ghost use Rattle.paths.proofs.Shape.{Shaped};
 ghost use Rattle.listing.proofs.Choosing.{Unforked};
 ghost use Rattle.listing.proofs.Settled.{settled};
 ghost use Rattle.sheet.specs.Judge.{Parents};
-ghost use Rattle.rows.specs.Rows.{Rows, Tables};
-ghost use Rattle.fork.specs.Given.{Long, TreeOf, Ends, Given};
+ghost use Rattle.rows.specs.Rows.{Long, Rows, Tables};
+ghost use Rattle.trees.specs.Trees.{TreeOf};
+ghost use Rattle.fork.specs.Given.{Ends, Given};
 ghost use Rattle.placings.specs.Guide.{HalfOf, Bounded, Standing, Arrived};
 
 // The edge that leads into a half.
 pub struct Edge {
     pub leaf: usize,
     pub root: usize,
-}
-
-// The root of v's fragment.
-fn own(parent: &[u8], n: usize, v: usize) -> usize
-    requires { ⌜ Parents n (now parent) × (v < n) ⌝ }
-    ensures { λ r. ⌜ (r < n) × ((g : Graph) → Shaped g → TreeOf g n (now (parent .entry)) → r ≡ ownOf g v) ⌝ }
-{
-    let mut at = v;
-    let mut left = n;
-    while 0 < left {
-        let above = parent[at];
-        if above == NONE {
-            return at;
-        }
-        at = above as usize;
-        left -= 1;
-    }
-    at
 }
 
 // The half of the choice between a and b that the placing is in.
@@ -60,7 +43,7 @@ fn half(parent: &[u8], n: usize, under_low: &[u64], under_high: &[u64], a: usize
         ⌝ }
 {
     let over = own(parent, n, b);
-    if descends(under_low, under_high, a, over) {
+    if in_row(under_low, under_high, a, over) {
         return Edge {
             leaf: a,
             root: over,

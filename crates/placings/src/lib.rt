@@ -10,8 +10,7 @@ ghost use Prim.Native.Nat.{ℕ, _≤_};
 ghost use lib.ListN.{length, take};
 ghost use Rattle.graph.specs.Graph.{Graph};
 ghost use Rattle.sheet.specs.Judge.{Parents};
-ghost use Rattle.rows.specs.Rows.{Tables};
-ghost use Rattle.fork.specs.Given.{Long};
+ghost use Rattle.rows.specs.Rows.{Long, Tables};
 ghost use Rattle.placings.specs.Answered.{Answered, Noes};
 
 mod guide;

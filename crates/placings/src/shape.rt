@@ -1,17 +1,16 @@
 // What can be read off a placing's bytes and its rows: that it is a placing, a solved form, and that no leaf carries two
 // roots.
 use descent::cyclic;
-use descent::under;
 use nodeset::NodeSet;
+use rows::row;
 use sheet::NONE;
 ghost use mathlib.Core.Path.{_≡_};
 ghost use mathlib.Core.Bool.{not, _&&_};
 ghost use Prim.Native.Nat.{_≤_, _<_};
 ghost use lib.ListN.{length};
 ghost use Rattle.finite.specs.Below.{any};
-ghost use Rattle.rows.specs.Rows.{inRow};
-ghost use Rattle.fork.specs.Given.{Long};
-ghost use Rattle.placings.specs.Tests.{fits as fitting, placingIn, outside, downwardIn, LeafSet, singleIn};
+ghost use Rattle.rows.specs.Rows.{Long, inRow};
+ghost use Rattle.placings.specs.Tests.{fits as fitting, placingIn, outside, downwardIn, singleIn};
 
 // 255, or a leaf where v is a root.
 fn fits(byte: u8, v: usize, n: usize, leaves: NodeSet, roots: NodeSet) -> bool
@@ -49,8 +48,8 @@ fn strays(heads_low: &[u64], heads_high: &[u64], low: &[u64], high: &[u64], l: u
     requires { ⌜ Long (now «heads_low») (now «heads_high») × Long (now low) (now high) × (l < 128) ⌝ }
     ensures { λ r. ⌜ r ≡ any 128 (outside (now («heads_low» .entry)) (now («heads_high» .entry)) (now (low .entry)) (now (high .entry)) l) ⌝ }
 {
-    let heads = under(heads_low, heads_high, l);
-    let below = under(low, high, l);
+    let heads = row(heads_low, heads_high, l);
+    let below = row(low, high, l);
     !heads.difference(below).is_empty()
 }
 
@@ -80,17 +79,6 @@ pub fn solved(heads_low: &[u64], heads_high: &[u64], low: &[u64], high: &[u64], 
     downward(heads_low, heads_high, low, high, n)
 }
 
-// The leaf, or no leaf.
-fn leaf_set(byte: u8) -> NodeSet
-    ensures { λ r. ⌜ LeafSet byte r ⌝ }
-{
-    if byte < 128 {
-        NodeSet::only(byte as usize)
-    } else {
-        NodeSet::empty()
-    }
-}
-
 // No leaf carries two roots.
 pub fn single(placing: &[u8], n: usize) -> bool
     requires { ⌜ n ≤ length (now placing) ⌝ }
@@ -98,7 +86,7 @@ pub fn single(placing: &[u8], n: usize) -> bool
 {
     let mut used = NodeSet::empty();
     for v in 0..n {
-        let leaf = leaf_set(placing[v]);
+        let leaf = NodeSet::of_byte(placing[v]);
         if !used.intersection(leaf).is_empty() {
             return false;
         }

@@ -3,6 +3,7 @@ use graph::Count;
 use graph::Refusal;
 use libc::STDOUT_FILENO;
 use nodeset::NodeSet;
+use numbered::PAIRS;
 use numbered::count;
 use pages::fill;
 use sheet::judge::Verdict;
@@ -16,9 +17,6 @@ ghost use Rattle.walk.specs.Given.{Sheet};
 
 // A page is written at once.
 const PAGE: usize = 32768;
-
-// A choice adds a pair to the descent relation, so no walk makes more of them than there are pairs.
-const PAIRS: usize = 16384;
 
 fn print_refusal(why: Refusal) {
     let mut out = [0u8; 11];

@@ -1,27 +1,23 @@
 -- The tests after the last command: each loop's step, and that the tests on the tables are those on the edges held.
 use Prim.Native.Nat.{ℕ, zero, suc, _+_, _-_, _≤_, _<_}
-use mathlib.Core.Path.{_≡_, refl, sym, ap, _∙_}
-use mathlib.Core.List.{List, [], _∷_}
-use mathlib.Core.Bool.{Bool, true, false, cond, not, _||_, _&&_}
-use mathlib.Core.Logic.{⊎-elim}
-use native.Mathlib.Numerals.{add-one}
+use mathlib.Core.Path.{_≡_, refl, sym, _∙_}
+use mathlib.Core.List.{List}
+use mathlib.Core.Bool.{true, false, not, _||_, _&&_}
 use native.Mathlib.Omega.{arith}
 use lib.Dec.{eqb, ltb}
-use lib.ListN.{length, getD}
+use lib.ListN.{getD}
 use borrow.Author.Tests.{eq-eqb, ne-eqb, eqb-true, eqb-false, lt-ltb, le-ltb, ltb-true, ltb-false}
 use Rattle.finite.specs.Below.{any}
-use Rattle.finite.proofs.Laws.{by-bool, any-at, any-none, any-ext, any-found, any-more, any-cut, and-true, not-not, neither, and-both}
+use Rattle.finite.proofs.Laws.{by-bool, any-ext, any-more, any-cut, and-true, neither, and-both}
 use Rattle.nodeset.specs.Set.{member, mem, Difference}
 use Rattle.nodeset.specs.declared.NodeSet.{NodeSet}
-use Rattle.layout.proofs.Edges.{parent-among, parent-unentered, parent-only, left-of-among, left-found}
-use Rattle.finite.proofs.Laws.{test-ext}
 use Rattle.layout.proofs.Spelling.{root-below}
-use Rattle.sheet.proofs.Turns.{parent-tells}
-use Rattle.graph.specs.Graph.{Edge, Graph, among, entered, left, root, leaf, parent, none}
+use Rattle.sheet.proofs.Trees.{rises-held, inner-held, root-held}
+use Rattle.graph.specs.Graph.{Edge, Graph, entered, left, root, leaf, none}
 use Rattle.graph.specs.Sheet.{rises, cyclic, bare, astray, whole, refused, accepted}
 use Rattle.graph.specs.declared.Refusal.the-variants.{Tree, Bare, Ends}
 use Rattle.sheet.specs.Turn.{Holds}
-use Rattle.sheet.specs.Judge.{Parents, InnerSet, RootSet, risesIn, cyclicIn, innerIn, rootIn, strayIn, astrayIn}
+use Rattle.sheet.specs.Judge.{InnerSet, RootSet, risesIn, cyclicIn, innerIn, rootIn, strayIn, astrayIn}
 
 -- one edge up
 
@@ -87,47 +83,16 @@ abbrev pub graphOf : ℕ → List Edge → List Edge → Graph
 graphOf n t d = record { nodes = n; tree = t; dominance = d }
 
 module _ (n : ℕ) (t d : List Edge) (parents low high : List ℕ) (edges : ℕ) (few : n ≤ 128) (holds : Holds n t d parents low high edges) where
-  has-parent : (v : ℕ) → v < n → not (eqb (getD parents v 0) none) ≡ entered t v
-  has-parent v h = rw (holds .parent-is v (omega arith)) (sym (parent-tells n t v few (holds .tree-within)))
-
-  rises-held : (k v : ℕ) → v < n → risesIn k parents v ≡ rises k t v
-  unfolding risesIn rises
-  rises-held zero v h = refl
-  rises-held (suc k) v h =
-      by-bool (entered t v)
-      (λ (e : entered t v ≡ true).
-      let up = holds .tree-within (parent t v) v (parent-among t v e) in
-      rw (has-parent v h, e, holds .parent-is v (omega arith)) (rises-held k (parent t v) (up .0)))
-      (λ (e : entered t v ≡ false). rw (has-parent v h, e))
-
   pub cyclic-held : cyclicIn n parents ≡ cyclic (graphOf n t d)
   unfolding cyclicIn cyclic
-  cyclic-held = any-ext n (risesIn n parents) (rises n t) (rises-held n)
+  cyclic-held = any-ext n (risesIn n parents) (rises n t) (rises-held n t parents few (holds .tree-within) (holds .parent-is) n)
 
-  inner-held : (v : ℕ) → v < n → innerIn n parents v ≡ left t v
-  unfolding innerIn
-  inner-held v h =
-      test-ext (any n (λ c. eqb (getD parents c 0) v)) (left t v)
-      (λ e.
-      let r = any-found n (λ c. eqb (getD parents c 0) v) e in
-      let is : parent t (r .0) ≡ v = sym (holds .parent-is (r .0) (omega (arith, r .1))) ∙ eqb-true (getD parents (r .0) 0) v (r .2) in
-      by-bool (entered t (r .0))
-      (λ (i : entered t (r .0) ≡ true). left-of-among t v (r .0) (rw is at (parent-among t (r .0) i)))
-      (λ (i : entered t (r .0) ≡ false). absurd (omega (arith, parent-unentered t (r .0) i))))
-      (λ e.
-      let r = left-found t v e in
-      let w = holds .tree-within v (r .0) (r .1) in
-      any-at n (λ c. eqb (getD parents c 0) v) (r .0) (w .1)
-      (eq-eqb (getD parents (r .0) 0) v (holds .parent-is (r .0) (omega (arith, w .1)) ∙ sym (parent-only t v (r .0) (holds .one-parent) (r .1)))))
+  inner-is : (v : ℕ) → v < n → innerIn n parents v ≡ left t v
+  inner-is = inner-held n t parents few (holds .tree-within) (holds .parent-is) (holds .one-parent)
 
-  root-held : (v : ℕ) → rootIn n parents v ≡ root (graphOf n t d) v
-  unfolding rootIn root
-  root-held v =
-      by-bool (ltb v n)
-      (λ (e : ltb v n ≡ true).
-      let has = has-parent v (ltb-true v n e) in
-      rw (e, ← has, not-not))
-      (λ (e : ltb v n ≡ false). rw e)
+  root-is : (v : ℕ) → rootIn n parents v ≡ root (graphOf n t d) v
+  unfolding root
+  root-is = root-held n t parents few (holds .tree-within) (holds .parent-is)
 
   root-of-node : (v : ℕ) → v < n → root (graphOf n t d) v ≡ not (entered t v)
   unfolding root
@@ -135,18 +100,18 @@ module _ (n : ℕ) (t d : List Edge) (parents low high : List ℕ) (edges : ℕ)
 
   leaf-held : (v : ℕ) → v < n → leaf (graphOf n t d) v ≡ not (innerIn n parents v)
   unfolding leaf
-  leaf-held v h = rw (lt-ltb v n h, inner-held v h)
+  leaf-held v h = rw (lt-ltb v n h, inner-is v h)
 
   module _ (inner roots : NodeSet) (is-inner : InnerSet n parents inner) (is-roots : RootSet n parents roots) where
     pub bare-held : (both : NodeSet) → Difference roots inner both → any 128 (mem both) ≡ bare (graphOf n t d)
     unfolding bare
     bare-held both is =
         any-cut 128 n (mem both) few (λ k h m.
-        let both-are : (root (graphOf n t d) k && not (mem inner k)) ≡ true = rw (is k, is-roots k, root-held k) at m in
+        let both-are : (root (graphOf n t d) k && not (mem inner k)) ≡ true = rw (is k, is-roots k, root-is k) at m in
         root-below (graphOf n t d) k (and-both (root (graphOf n t d) k) (not (mem inner k)) both-are .0))
         ∙ any-ext n (mem both) _ (λ v h.
         is v
-        ∙ rw (is-roots v, is-inner v (omega arith), root-held v, inner-held v h, root-of-node v h, neither (entered t v) (left t v)))
+        ∙ rw (is-roots v, is-inner v (omega arith), root-is v, inner-is v h, root-of-node v h, neither (entered t v) (left t v)))
 
     pub astray-held : astrayIn n low high inner roots ≡ astray (graphOf n t d)
     unfolding astrayIn astray strayIn
@@ -156,7 +121,7 @@ module _ (n : ℕ) (t d : List Edge) (parents low high : List ℕ) (edges : ℕ)
         let row = member (getD low l 0) (getD high l 0) r in
         let is : row ≡ true = and-both row (not (not (mem inner l) && mem roots r)) m .0 in
         holds .dominance-within l r (sym (holds .heads-are l r) ∙ is) .1)
-        ∙ any-ext n _ _ (λ r hr. rw (holds .heads-are l r, is-inner l (omega arith), is-roots r, root-held r, leaf-held l hl)))
+        ∙ any-ext n _ _ (λ r hr. rw (holds .heads-are l r, is-inner l (omega arith), is-roots r, root-is r, leaf-held l hl)))
 
 -- the first test to hold decides
 

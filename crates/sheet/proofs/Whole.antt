@@ -1,26 +1,25 @@
 -- A whole sheet: the first command by its bytes, and the answers of the walk and of the judge put together.
-use Prim.Native.Nat.{ℕ, zero, suc, _≤_, _<_}
-use mathlib.Core.Path.{_≡_, refl, sym, ap, _∙_}
+use Prim.Native.Nat.{ℕ, _≤_, _<_}
+use mathlib.Core.Path.{_≡_, refl, sym, _∙_}
 use mathlib.Core.List.{List, [], _∷_}
-use mathlib.Core.Bool.{Bool, true, false, cond, _&&_, false≢true}
-use lib.Dec.{ltb}
+use mathlib.Core.Bool.{true, false, cond, _&&_, false≢true}
 use native.Mathlib.Omega.{arith}
 use lib.Dec.{eqb, leb}
-use lib.ListN.{length, getD, drop, replicate, length-replicate, getD-replicate, List·getD-eq-default}
-use borrow.Author.Tests.{eq-eqb, ne-eqb, le-leb, lt-leb, leb-true, eqb-true, ltb-true, ltb-false}
-use Rattle.finite.proofs.Laws.{by-bool, and-both, and-false}
+use lib.ListN.{length, getD, drop, replicate, length-replicate, getD-replicate}
+use borrow.Author.Tests.{eq-eqb, ne-eqb, leb-true}
+use Rattle.finite.proofs.Laws.{by-bool, and-both}
+use Rattle.finite.proofs.Stores.{zeros}
 use Rattle.nodeset.proofs.Laws.{member-zero}
-use Rattle.graph.specs.Graph.{Edge, Graph, among, single, parent, none}
-use Rattle.graph.specs.Sheet.{Outcome, refused, accepted, whole, commands, outcome}
+use Rattle.graph.specs.Graph.{Edge, among, single, parent}
+use Rattle.graph.specs.Sheet.{Outcome, refused, whole, commands, outcome}
 use Rattle.graph.specs.declared.Refusal.{Refusal}
 use Rattle.graph.specs.declared.Refusal.the-variants.{Missing, Command, Range}
-use Rattle.layout.proofs.Edges.{among-none, entered-of-among, parent-unentered, parent-among}
-use Rattle.sheet.proofs.Turns.{parent-tells}
+use Rattle.sheet.proofs.Trees.{parent-node}
 use Rattle.sheet.proofs.Judges.{graphOf}
 use Rattle.sheet.specs.Turn.{Holds}
 use Rattle.sheet.specs.Run.{Walked}
 use Rattle.sheet.specs.Judge.{Parents, Judged}
-use Rattle.sheet.specs.Read.{headerOf, Blank, Decodes, Spelt, Decoding, Reads, Value}
+use Rattle.sheet.specs.Read.{headerOf, Blank, Decodes, Reads}
 use Rattle.sheet.specs.declared.run.Walk.{Walk}
 use Rattle.sheet.specs.declared.run.Walk.the-variants.{Ended, Refused as WalkRefused}
 use Rattle.sheet.specs.declared.judge.Verdict.{Verdict}
@@ -107,21 +106,8 @@ parents-held n t d parents low high edges few h =
     record {
       few = few;
       long = h .parents-long;
-      node-or-none = λ v lt some.
-          let is = h .parent-is v (omega arith) in
-          by-bool (eqb (parent t v) none)
-          (λ (e : eqb (parent t v) none ≡ true). absurd (some (is ∙ eqb-true (parent t v) none e)))
-          (λ (e : eqb (parent t v) none ≡ false).
-          let enters = parent-tells n t v few (h .tree-within) ∙ rw e in
-          let w = h .tree-within (parent t v) v (parent-among t v enters) in
-          omega (arith, w .0));
+      node-or-none = parent-node n t parents few (h .tree-within) (h .parent-is);
     }
-
-zeros : (m l : ℕ) → _≡_ {A = ℕ} (getD (replicate m 0) l 0) 0
-zeros m l =
-    by-bool (ltb l m)
-    (λ (e : ltb l m ≡ true). getD-replicate m l 0 0 (ltb-true l m e))
-    (λ (e : ltb l m ≡ false). List·getD-eq-default (replicate m 0) 0 (rw (length-replicate {A = ℕ} m 0) (ltb-false l m e)))
 
 pub blank : (m : ℕ) → m ≡ 128 → Blank (replicate m 255) (replicate m 0) (replicate m 0)
 unfolding parent single among

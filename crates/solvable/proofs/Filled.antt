@@ -6,30 +6,26 @@ use mathlib.Core.Bool.{Bool, true, false, not, _&&_, _||_, true≢false}
 use mathlib.Core.Logic.{_⊎_, inl, inr, ⊎-elim, _↔_}
 use native.Mathlib.Omega.{arith}
 use lib.Dec.{eqb, ltb}
-use lib.ListN.{getD, set, replicate, length-set, length-replicate, getD-replicate, List·getD-eq-default}
+use lib.ListN.{set, replicate, length-set, length-replicate}
 use lib.Seq.{getD-set-same, getD-set-other}
 use borrow.Author.Tests.{eq-eqb, eqb-true, eqb-false, lt-ltb, le-ltb, ltb-true, ltb-false}
 use Rattle.finite.proofs.Laws.{by-bool, and-both, and-false, or-cases, or-right, eqb-sym}
+use Rattle.finite.proofs.Stores.{zeros}
 use Rattle.nodeset.specs.Set.{mem, Only, Removed, Union, Intersection, Difference}
 use Rattle.nodeset.specs.declared.NodeSet.{NodeSet}
 use Rattle.nodeset.proofs.Laws.{member-zero}
+use Rattle.nodeset.proofs.Members.{Small, removed-member, removed-cases, removed-gone, removed-out}
 use Rattle.graph.specs.Graph.{Graph, left, leaf, own, leafOf, none}
 use Rattle.layout.proofs.Spelling.{leaf-below}
 use Rattle.paths.proofs.Shape.{Shaped}
 use Rattle.paths.proofs.Fragments.{leafOf-parts}
-use Rattle.rows.specs.Rows.{inRow}
+use Rattle.rows.specs.Rows.{Long, IsRow, inRow}
 use Rattle.sheet.specs.Judge.{InnerSet}
-use Rattle.solvable.specs.Tables.{TreeOf, Long, IsRow, Blank, Put, PutAll, NearRows, Symmetric}
-use Rattle.solvable.proofs.Trees.{inner-is}
-use Rattle.solvable.proofs.Members.{Small, removed-member, removed-cases, removed-gone, removed-out}
+use Rattle.trees.specs.Trees.{TreeOf, topIn}
+use Rattle.trees.proofs.Held.{inner-is, own-is}
+use Rattle.solvable.specs.Tables.{Blank, Put, PutAll, NearRows, Symmetric}
 
 -- rows of zeros
-
-zeros : (m u : ℕ) → _≡_ {A = ℕ} (getD (replicate m 0) u 0) 0
-zeros m u =
-    by-bool (ltb u m)
-    (λ (e : ltb u m ≡ true). getD-replicate m u 0 0 (ltb-true u m e))
-    (λ (e : ltb u m ≡ false). List·getD-eq-default (replicate m 0) 0 (rw (length-replicate {A = ℕ} m 0) (ltb-false u m e)))
 
 pub blank-rows : (m : ℕ) → m ≡ 128 → Blank (replicate m 0) (replicate m 0)
 blank-rows m e =
@@ -112,7 +108,7 @@ pub leaves-start : (n : ℕ) (parents low high : List ℕ) → Blank low high �
 leaves-start n parents low high blank g s t r x = blank .nothing r x ∙ rw (le-ltb x 0 (omega arith))
 
 pub leaves-more : (n : ℕ) (parents low high low′ high′ : List ℕ) (v u : ℕ) (inner only leaves : NodeSet) → n ≤ 128 → v < n → LeafSo n parents v low high
-    → InnerSet n parents inner → Only v only → Difference only inner leaves → ((g : Graph) → Shaped g → TreeOf g n parents → u ≡ own g v) → Put (inRow low high) u leaves low′ high′
+    → InnerSet n parents inner → Only v only → Difference only inner leaves → u ≡ topIn n parents v → Put (inRow low high) u leaves low′ high′
     → LeafSo n parents (v + 1) low′ high′
 unfolding leafOf leaf
 leaves-more n parents low high low′ high′ v u inner only leaves small h so is-inner is-only is-leaves is-root put g s t r x =
@@ -121,7 +117,7 @@ leaves-more n parents low high low′ high′ v u inner only leaves small h so i
     (by-bool (eqb x v)
     (λ (e : eqb x v ≡ true).
     let q : x ≡ v = eqb-true x v e in
-    rw (e, q, le-ltb v v (omega arith), lt-ltb v (v + 1) (omega arith), is-inner v (omega arith), inner-is g s n parents t v h, is-root g s t, lt-ltb v (g .nodes) (omega (arith, t .nodes)), eqb-sym r (own g v))
+    rw (e, q, le-ltb v v (omega arith), lt-ltb v (v + 1) (omega arith), is-inner v (omega arith), inner-is s t v h, is-root ∙ own-is s t v h, lt-ltb v (g .nodes) (omega (arith, t .nodes)), eqb-sym r (own g v))
     (swap (eqb (own g v) r) (not (left (g .tree) v))))
     (λ (e : eqb x v ≡ false).
     let other : x ≡ v → ⊥ = eqb-false x v e in

@@ -9,9 +9,10 @@ use Rattle.finite.specs.Below.{any, count}
 use Rattle.finite.proofs.Laws.{by-bool, and-both, or-cases, or-left, or-right, any-found}
 use Rattle.nodeset.specs.Set.{mem, Empty, Removed, Union, Intersection, Difference}
 use Rattle.nodeset.specs.declared.NodeSet.{NodeSet}
-use Rattle.solvable.specs.Tables.{Symmetric, IsRow}
+use Rattle.nodeset.proofs.Members.{Small, removed-member, removed-cases, removed-gone, removed-out, removed-other, one-less}
+use Rattle.rows.specs.Rows.{IsRow}
+use Rattle.solvable.specs.Tables.{Symmetric}
 use Rattle.solvable.specs.Free.{Spread, start, Spreads, Apart, Tops, others, Taken, Taking, none-taken, then-taken, Round}
-use Rattle.solvable.proofs.Members.{Small, removed-member, removed-cases, removed-gone, removed-out, removed-other, one-less}
 use Rattle.solvable.proofs.Spreading.{spread-within, spread-map, spread-back}
 
 -- the tops: what no member gone through stands above

@@ -9,9 +9,9 @@ use Rattle.finite.specs.Below.{count}
 use Rattle.finite.proofs.Laws.{by-bool, and-both, or-cases, or-none, or-left, count-one-more}
 use Rattle.nodeset.specs.Set.{mem, Removed, Union, Intersection, Difference}
 use Rattle.nodeset.specs.declared.NodeSet.{NodeSet}
+use Rattle.nodeset.proofs.Members.{Small, removed-member, removed-cases, removed-gone, removed-other}
 use Rattle.solvable.specs.Tables.{Symmetric}
 use Rattle.solvable.specs.Free.{Spread, start, step, Spreads}
-use Rattle.solvable.proofs.Members.{Small, removed-member, removed-cases, removed-gone, removed-other}
 
 pub spread-within : {near : ℕ → ℕ → Bool} {within from : ℕ → Bool} {f : ℕ} → Spread near within from f → within f ≡ true
 spread-within (start h w) = w

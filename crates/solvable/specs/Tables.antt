@@ -1,28 +1,16 @@
--- The tables that the test looks up, and the tree that a table of parents holds.
-use Prim.Native.Nat.{ℕ, _<_}
+-- The tables that the test looks up.
+use Prim.Native.Nat.{ℕ}
 use mathlib.Core.Path.{_≡_}
 use mathlib.Core.List.{List}
 use mathlib.Core.Bool.{Bool, true, false, _&&_, _||_}
 use mathlib.Core.Logic.{_⊎_, _↔_}
 use lib.Dec.{eqb}
-use lib.ListN.{length, getD}
 use Rattle.nodeset.specs.Set.{mem}
 use Rattle.nodeset.specs.declared.NodeSet.{NodeSet}
-use Rattle.graph.specs.Graph.{Graph, parent, leafOf}
+use Rattle.graph.specs.Graph.{Graph, leafOf}
 use Rattle.paths.proofs.Shape.{Shaped}
-use Rattle.rows.specs.Rows.{inRow}
-
--- the table of parents holds the trees of g, whatever its dominance edges
-pub record TreeOf (g : Graph) (n : ℕ) (parents : List ℕ) : Type 0 where
-  pub nodes : n ≡ g .nodes
-  pub parent-is : (v : ℕ) → v < 128 → getD parents v 0 ≡ parent (g .tree) v
-
--- a table of rows has 128
-abbrev pub Long : List ℕ → List ℕ → Type 0
-Long low high = (length low ≡ 128) × (length high ≡ 128)
-
-abbrev pub IsRow : (ℕ → ℕ → Bool) → ℕ → NodeSet → Type 0
-IsRow rows u r = (v : ℕ) → mem r v ≡ rows u v
+use Rattle.rows.specs.Rows.{Long, inRow}
+use Rattle.trees.specs.Trees.{TreeOf}
 
 -- rows with nothing in them
 pub record Blank (low high : List ℕ) : Type 0 where

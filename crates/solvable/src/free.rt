@@ -1,13 +1,13 @@
 // Free fragments: which there are in a set, and that they can be taken out of it until none is left.
-use crate::tables::row;
 use nodeset::NodeSet;
+use rows::row;
 ghost use mathlib.Core.Path.{_≡_};
 ghost use mathlib.Core.Bool.{true};
 ghost use mathlib.Core.Logic.{_↔_};
 ghost use Prim.Native.Nat.{_<_};
 ghost use Rattle.nodeset.specs.Set.{mem};
-ghost use Rattle.rows.specs.Rows.{inRow};
-ghost use Rattle.solvable.specs.Tables.{Long, Symmetric};
+ghost use Rattle.rows.specs.Rows.{Long, inRow};
+ghost use Rattle.solvable.specs.Tables.{Symmetric};
 ghost use Rattle.solvable.specs.Free.{Spreads, Apart, Tops, Taken, Round, Ended};
 
 // What is reached from `from` by steps to near members of `within`. Pending is what is reached and not yet gone on from.

@@ -17,7 +17,7 @@ ghost use Rattle.graph.specs.Placing.{Solvable};
 ghost use Rattle.paths.proofs.Shape.{Shaped};
 ghost use Rattle.rows.specs.Rows.{Rows};
 ghost use Rattle.sheet.specs.Judge.{Parents};
-ghost use Rattle.solvable.specs.Tables.{TreeOf};
+ghost use Rattle.trees.specs.Trees.{TreeOf};
 
 // The answer is that of every graph whose trees the parents are and whose descent relation the rows are.
 pub fn solvable(parent: &[u8], n: usize, low: &[u64], high: &[u64]) -> bool

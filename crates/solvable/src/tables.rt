@@ -1,24 +1,12 @@
-// What the test looks up: rows of sets, the leaves of each fragment, the roots comparable with a root.
+// What the test looks up: the leaves of each fragment, the roots comparable with a root.
 use nodeset::NodeSet;
-use sheet::NONE;
-ghost use mathlib.Core.Path.{_≡_};
+use rows::row;
+use trees::own;
 ghost use Prim.Native.Nat.{_<_};
-ghost use Rattle.graph.specs.Graph.{Graph, own};
 ghost use Rattle.nodeset.specs.Set.{mem};
-ghost use Rattle.paths.proofs.Shape.{Shaped};
-ghost use Rattle.rows.specs.Rows.{inRow};
+ghost use Rattle.rows.specs.Rows.{Long, inRow};
 ghost use Rattle.sheet.specs.Judge.{Parents, InnerSet};
-ghost use Rattle.solvable.specs.Tables.{TreeOf, Long, IsRow, Blank, Put, PutAll, LeafRows, NearRows};
-
-pub fn row(low: &[u64], high: &[u64], u: usize) -> NodeSet
-    requires { ⌜ Long (now low) (now high) × (u < 128) ⌝ }
-    ensures { λ r. ⌜ IsRow (inRow (now (low .entry)) (now (high .entry))) u r ⌝ }
-{
-    NodeSet {
-        low: low[u],
-        high: high[u],
-    }
-}
+ghost use Rattle.solvable.specs.Tables.{Blank, Put, PutAll, LeafRows, NearRows};
 
 // The members of the set, put into row u.
 fn put(low: &mut [u64], high: &mut [u64], u: usize, set: NodeSet)
@@ -30,25 +18,6 @@ fn put(low: &mut [u64], high: &mut [u64], u: usize, set: NodeSet)
     high[u] = more.high;
 }
 
-// The root of v's fragment: up to a node without a parent.
-fn root_of(parent: &[u8], n: usize, v: usize) -> usize
-    requires { ⌜ Parents n (now parent) × (v < n) ⌝ }
-    ensures { λ r. ⌜ r < n ⌝ }
-    ensures { λ r. ⌜ ((g : Graph) → Shaped g → TreeOf g n (now (parent .entry)) → r ≡ own g v) ⌝ }
-{
-    let mut at = v;
-    let mut left = n;
-    while 0 < left {
-        let above = parent[at];
-        if above == NONE {
-            return at;
-        }
-        at = above as usize;
-        left -= 1;
-    }
-    at
-}
-
 // Each leaf in the row of its fragment's root.
 pub fn leaf_rows(parent: &[u8], n: usize, inner: NodeSet, low: &mut [u64], high: &mut [u64])
     requires { ⌜ Parents n (now parent) × InnerSet n (now parent) inner × Blank (now low) (now high) ⌝ }
@@ -56,7 +25,7 @@ pub fn leaf_rows(parent: &[u8], n: usize, inner: NodeSet, low: &mut [u64], high:
 {
     for v in 0..n {
         let leaf = NodeSet::only(v).difference(inner);
-        put(low, high, root_of(parent, n, v), leaf);
+        put(low, high, own(parent, n, v), leaf);
     }
 }
 

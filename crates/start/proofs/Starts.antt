@@ -1,21 +1,20 @@
 -- The tables as the parts fill them are those that a walk is given.
-use Prim.Native.Nat.{ℕ}
+use Prim.Native.Nat.{ℕ, _≤_}
 use mathlib.Core.Path.{_≡_, refl, sym, _∙_}
 use mathlib.Core.List.{List}
-use mathlib.Core.Bool.{true, false, true≢false}
+use mathlib.Core.Bool.{true, true≢false}
 use mathlib.Core.Logic.{_↔_}
+use native.Mathlib.Omega.{arith}
+use lib.ListN.{length}
 use Rattle.nodeset.specs.Set.{mem}
 use Rattle.graph.specs.Graph.{Graph, Descent, leaf}
 use Rattle.graph.specs.Placing.{Solvable}
 use Rattle.paths.proofs.Shape.{Shaped, well-formed-shaped}
 use Rattle.sheet.specs.Judge.{Parents, RootSet}
-use Rattle.sheet.proofs.Whole.{parents-held}
-use Rattle.rows.specs.Rows.{Rows}
-use Rattle.descent.specs.Closing.{Long}
-use Rattle.solvable.specs.Tables as test
-use Rattle.fork.specs.Given.{TreeOf}
+use Rattle.rows.specs.Rows.{Long, Rows}
+use Rattle.trees.specs.Trees.{TreeOf, Filled}
+use Rattle.trees.proofs.Held.{tree-of, tables-parents, own-is}
 use Rattle.fork.proofs.Trees.{ends-of}
-use Rattle.walk.specs.Given.{Filled}
 use Rattle.start.specs.Given.{Given}
 use Rattle.start.specs.Started.{Started}
 use Rattle.start.specs.declared.Start.{Start}
@@ -25,20 +24,20 @@ module _ {n : ℕ} {parents heads-low heads-high : List ℕ} (s : Given n parent
   shaped = well-formed-shaped (s .tables .well-formed)
 
   pub parents-table : Parents n parents
-  parents-table = rw (s .tables .nodes) (parents-held _ _ _ _ _ _ _ (s .tables .well-formed .few-nodes) (s .tables .holds))
+  parents-table = tables-parents (s .tables)
 
   pub heads-long : Long heads-low heads-high
   heads-long = (s .tables .holds .low-long, s .tables .holds .high-long)
 
   tree : TreeOf (s .graph) n parents
-  tree = record { nodes = s .tables .nodes; parent-is = s .tables .holds .parent-is }
+  tree = tree-of (s .tables)
 
-  pub started : (old owners low high : List ℕ) (r : Start) → Filled n parents old owners → Rows (Descent (s .graph)) low high
-      → ((h : Graph) → Shaped h → test.TreeOf h n parents → Rows (Descent h) low high → (r .solvable ≡ true) ↔ Solvable h)
+  pub started : (old owners low high : List ℕ) (r : Start) → n ≤ length old → Filled n parents old owners n → Rows (Descent (s .graph)) low high
+      → ((h : Graph) → Shaped h → TreeOf h n parents → Rows (Descent h) low high → (r .solvable ≡ true) ↔ Solvable h)
       → ((h : Graph) → Shaped h → TreeOf h n parents → (v : ℕ) → mem (r .leaves) v ≡ leaf h v) → RootSet n parents (r .roots)
       → Started (s .graph) n parents owners low high r
-  started old owners low high r filled rows test-is leaves-are roots-are =
-      let is = test-is (s .graph) shaped (record { nodes = s .tables .nodes; parent-is = s .tables .holds .parent-is }) rows in
+  started old owners low high r long filled rows test-is leaves-are roots-are =
+      let is = test-is (s .graph) shaped tree rows in
       record {
         solved = λ e.
             record {
@@ -46,8 +45,8 @@ module _ {n : ℕ} {parents heads-low heads-high : List ℕ} (s : Given n parent
                 graph = s .graph;
                 solvable = is .0 e;
                 parents-table = parents-table;
-                owners-long = filled .table .long;
-                fits = record { owned = record { shaped = shaped; nodes = s .tables .nodes; owners-are = filled .are (s .graph) shaped tree }; tree = tree };
+                owners-long = omega (arith, filled .long);
+                fits = record { owned = record { shaped = shaped; nodes = s .tables .nodes; owners-are = λ v h. filled .top-is v h ∙ own-is shaped tree v h }; tree = tree };
                 ends = ends-of (s .graph) shaped n parents tree (r .leaves) (r .roots) (leaves-are (s .graph) shaped tree) roots-are;
                 rows = rows;
               };

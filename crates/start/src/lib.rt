@@ -5,10 +5,10 @@ use fork::ends::leaf_nodes;
 use nodeset::NodeSet;
 use sheet::judge::root_nodes;
 use solvable::solvable;
-use walk::owners::owners;
+use trees::owners;
 ghost use Prim.Native.Nat.{_≤_};
 ghost use lib.ListN.{length};
-ghost use Rattle.descent.specs.Closing.{Long};
+ghost use Rattle.rows.specs.Rows.{Long};
 ghost use Rattle.start.specs.Given.{Given};
 ghost use Rattle.start.specs.Started.{Started};
 

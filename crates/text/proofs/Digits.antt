@@ -66,6 +66,12 @@ decimal-fewer k h =
     (λ (e : ltb k 10 ≡ true). rw (decimal-last k (ltb-true k 10 e)) (omega arith))
     (λ (e : ltb k 10 ≡ false). omega (arith, decimal-more-length k (ltb-false k 10 e) h))
 
+pub decimal-some : (k : ℕ) → k < 2 ^ 64 → 1 ≤ length (decimal k)
+decimal-some k h =
+    by-bool (ltb k 10)
+    (λ (e : ltb k 10 ≡ true). rw (decimal-last k (ltb-true k 10 e)) (omega arith))
+    (λ (e : ltb k 10 ≡ false). omega (arith, decimal-more-length k (ltb-false k 10 e) h))
+
 -- where k is below ten, a hundred, a thousand
 
 pub decimal-one : (k : ℕ) → k < 10 → length (decimal k) ≡ 1

@@ -1,21 +1,14 @@
--- What stands where a text was stored, a reading's line as it is read off tables, and bytes in hexadecimal.
+-- A reading's line as it is read off tables, and bytes in hexadecimal.
 use Prim.Native.Nat.{ℕ, _+_, _/_, _%_}
-use mathlib.Core.Path.{_≡_}
 use mathlib.Core.List.{List, [], _∷_, _++_}
 use mathlib.Core.Bool.{cond, not, _&&_}
 use lib.Dec.{eqb, ltb}
-use lib.ListN.{length, getD}
-use lib.Seq.{sets}
+use lib.ListN.{getD}
 use Rattle.finite.specs.Below.{spread}
 use Rattle.nodeset.specs.Set.{mem}
 use Rattle.nodeset.specs.declared.NodeSet.{NodeSet}
 use Rattle.graph.specs.Graph.{none}
 use Rattle.graph.specs.Text.{decimal, line}
-
--- from `at` on the bytes bs were stored, and the place after them is `end`
-pub record Written (old : List ℕ) (at : ℕ) (bs new : List ℕ) (end : ℕ) : Type 0 where
-  pub stored : new ≡ sets old at bs
-  pub after : end ≡ at + length bs
 
 -- " r:l", where r is a root hung under the leaf l
 unfoldable pub hungAt : NodeSet → ℕ → ℕ → List ℕ

@@ -8,7 +8,8 @@ ghost use Prim.Native.Nat.{_+_, _≤_, _<_};
 ghost use mathlib.Core.List.{_++_};
 ghost use lib.ListN.{length};
 ghost use Rattle.graph.specs.Text.{decimal, line, countLine, refusedLine};
-ghost use Rattle.text.specs.Lines.{Written, hungAt, lineIn, hexDigit, hexLine};
+ghost use Rattle.finite.specs.Stores.{Written};
+ghost use Rattle.text.specs.Lines.{hungAt, lineIn, hexDigit, hexLine};
 
 // What a placing has for a root on top.
 const TOP: u8 = 255;

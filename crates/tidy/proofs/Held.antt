@@ -1,19 +1,19 @@
 -- The bytes written are the tidy sheet of the graph that the tables hold.
-use Prim.Native.Nat.{ℕ, zero, suc, _+_, _*_, _≤_, _<_}
-use mathlib.Core.Path.{_≡_, refl, sym, ap, subst, subst⁻¹, _∙_}
-use mathlib.Core.List.{List, [], _∷_, _++_, append-nil, append-assoc}
-use mathlib.Core.Bool.{Bool, true, false, cond, not, _&&_, true≢false}
+use Prim.Native.Nat.{ℕ, suc, _+_, _*_, _≤_, _<_}
+use mathlib.Core.Path.{_≡_, refl, sym, ap, subst⁻¹, _∙_}
+use mathlib.Core.List.{List, [], _∷_, _++_}
+use mathlib.Core.Bool.{true, false, cond, not}
 use native.Mathlib.Nat.{zero-add}
 use native.Mathlib.Omega.{arith}
-use lib.Dec.{eqb, ltb}
-use lib.ListN.{length, getD, set, drop, take, length-append}
+use lib.Dec.{eqb}
+use lib.ListN.{length, getD, set, drop, length-append}
 use lib.Seq.{sets, sets-eq}
-use borrow.Author.Tests.{eq-eqb, ne-eqb, lt-ltb, le-ltb}
+use borrow.Author.Tests.{eq-eqb, ne-eqb}
 use Rattle.finite.specs.Below.{count, spread}
 use Rattle.finite.proofs.Laws.{by-bool, count-ext, count-le, spread-ext}
-use Rattle.nodeset.specs.Set.{member, mem}
-use Rattle.graph.specs.Graph.{Edge, Graph, among, entered, parent, none, WellFormed}
-use Rattle.graph.specs.Sheet.{Outcome, refused, accepted, tidy, tidyTree, tidyDominance}
+use Rattle.nodeset.specs.Set.{member}
+use Rattle.graph.specs.Graph.{Edge, among, entered, parent, none}
+use Rattle.graph.specs.Sheet.{tidy, tidyTree, tidyDominance}
 use Rattle.layout.proofs.Edges.{parent-among, parent-unentered, parent-only, among-unentered}
 use Rattle.finite.proofs.Laws.{not-holding}
 use Rattle.layout.proofs.Tidy.{tidy-length}
@@ -22,9 +22,10 @@ use Rattle.sheet.specs.Judge.{Parents}
 use Rattle.sheet.proofs.Turns.{parent-tells}
 use Rattle.sheet.proofs.Whole.{parents-held}
 use Rattle.sheet.proofs.Judges.{graphOf}
-use Rattle.tidy.specs.Tidy.{treeBytes, treePart, rowBytes, rowCommand, dominancePart, treesIn, Written, Held}
+use Rattle.finite.specs.Stores.{Written}
+use Rattle.tidy.specs.Tidy.{treeBytes, treePart, rowBytes, rowCommand, dominancePart, treesIn, Held}
 use Rattle.finite.proofs.Runs.{spread-gap}
-use Rattle.tidy.proofs.Runs.{written-more}
+use Rattle.finite.proofs.Stores.{written-more}
 
 -- a spread of which one number alone gives anything
 spread-single : {A : Type 0} (f : ℕ → List A) (n k : ℕ) → k < n → ((j : ℕ) → j < n → (j ≡ k → ⊥) → f j ≡ []) → spread n f ≡ f k

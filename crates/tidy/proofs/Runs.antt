@@ -1,35 +1,22 @@
 -- Runs of stores, one after the other, and the bytes of the commands that a loop has passed.
-use Prim.Native.Nat.{ℕ, zero, suc, _+_, _*_, _-_, _≤_, _<_}
-use mathlib.Core.Path.{_≡_, refl, sym, ap, subst⁻¹, _∙_}
-use mathlib.Core.List.{List, [], _∷_, _++_, append-nil, append-assoc}
-use mathlib.Core.Bool.{Bool, true, false, cond, not, _&&_, false≢true}
-use mathlib.Core.Logic.{_⊎_, ⊎-elim}
-use native.Mathlib.Nat.{eq-or-lt-of-le, add-zero, add-suc, suc-add, add-assoc}
-use native.Mathlib.Numerals.{add-one}
+use Prim.Native.Nat.{ℕ, suc, _+_, _-_, _≤_, _<_}
+use mathlib.Core.Path.{_≡_, refl, sym, subst⁻¹, _∙_}
+use mathlib.Core.List.{List, [], _∷_, _++_}
+use mathlib.Core.Bool.{true, false, cond, not, _&&_, false≢true}
 use native.Mathlib.Omega.{arith}
 use lib.Dec.{eqb, ltb, leb}
-use lib.ListN.{length, getD, set, length-append}
+use lib.ListN.{length, getD}
 use lib.Seq.{sets}
 use lib.Arith.{lt-of-le-ne}
-use borrow.Author.Tests.{eqb-true, eqb-false, eq-eqb, ne-eqb, leb-true, leb-false, le-leb, lt-leb, ltb-true, ltb-false}
+use borrow.Author.Tests.{eqb-true, eqb-false, leb-true, leb-false, le-leb, lt-leb, ltb-true, ltb-false}
 use Rattle.finite.specs.Below.{any, count, least, spread}
-use Rattle.finite.proofs.Laws.{by-bool, last-or-below, spread-more, count-more, and-both, and-false, and-true, least-at, least-holds, least-below, least-le, any-false, any-at, any-found}
-use Rattle.finite.proofs.Runs.{sets-append, spread-longer, spread-gap}
+use Rattle.finite.proofs.Laws.{by-bool, spread-more, count-more, and-both, least-at, least-holds, least-below, least-le, any-false, any-found}
+use Rattle.finite.proofs.Runs.{spread-longer, spread-gap}
+use Rattle.finite.proofs.Stores.{written-none, written-more, room}
 use Rattle.nodeset.specs.Set.{mem, Removed}
 use Rattle.nodeset.specs.declared.NodeSet.{NodeSet}
-use Rattle.tidy.specs.Tidy.{treeBytes, treePart, rowCommand, rowBytes, dominancePart, treesIn, Written}
-
--- nothing stored
-pub written-none : (old : List ℕ) (at : ℕ) → Written old at [] old at
-written-none old at = record { stored = refl; after = sym (add-zero at) }
-
--- more bytes stored after the others
-pub written-more : (old : List ℕ) (at : ℕ) (bs mid : List ℕ) (end : ℕ) (cs new : List ℕ) (last : ℕ) → Written old at bs mid end → Written mid end cs new last → Written old at (bs ++ cs) new last
-written-more old at bs mid end cs new last w v =
-    record {
-      stored = v .stored ∙ rw (w .stored, w .after) (sets-append bs old at cs);
-      after = v .after ∙ rw (w .after, length-append) (add-assoc at (length bs) (length cs));
-    }
+use Rattle.finite.specs.Stores.{Written}
+use Rattle.tidy.specs.Tidy.{treeBytes, treePart, rowCommand, rowBytes, dominancePart, treesIn}
 
 -- the commands of a row up to k, and what is left of it from k on
 pub record RowLeft (l : ℕ) (row left : NodeSet) (old : List ℕ) (start : ℕ) (new : List ℕ) (at : ℕ) : Type 0 where
@@ -71,14 +58,6 @@ dominance-part-more l low high = spread-more l (λ k. rowBytes k (record { low =
 pub dominance-part-longer : (l n : ℕ) (low high : List ℕ) → l ≤ n → length (dominancePart l low high) ≤ length (dominancePart n low high)
 unfolding dominancePart
 dominance-part-longer l n low high h = spread-longer (λ k. rowBytes k (record { low = getD low k 0; high = getD high k 0 })) l n h
-
--- where one part more has room in the whole, it has room after the parts passed
-pub room : (old : List ℕ) (start : ℕ) (bs new : List ℕ) (at : ℕ) (more whole : List ℕ) → Written old start bs new at → length (bs ++ more) ≤ length whole
-    → start + length whole ≤ length old → at + length more ≤ length old
-room old start bs new at more whole w h f =
-    let long = length-append bs more in
-    let after = w .after in
-    omega arith
 
 -- the row's commands, one member at a time
 

@@ -1,11 +1,10 @@
 -- What tidying answers and leaves in the lent bytes.
-use Prim.Native.Nat.{ℕ, _+_, _*_, _≤_}
+use Prim.Native.Nat.{ℕ, _+_}
 use mathlib.Core.Path.{_≡_}
 use mathlib.Core.List.{List, [], _∷_, _++_}
 use mathlib.Core.Bool.{cond, not}
 use lib.Dec.{eqb, ltb}
 use lib.ListN.{length, getD, drop}
-use lib.Seq.{sets}
 use Rattle.finite.specs.Below.{count, spread}
 use Rattle.nodeset.specs.Set.{mem}
 use Rattle.nodeset.specs.declared.NodeSet.{NodeSet}
@@ -42,11 +41,6 @@ moreTrees k p = k + cond (not (eqb p spec.none)) 1 0
 
 unfoldable pub treesIn : ℕ → List ℕ → ℕ
 treesIn n parents = count n (λ c. not (eqb (getD parents c 0) spec.none))
-
--- from `at` on the bytes bs were stored, and the place after them is `end`
-pub record Written (old : List ℕ) (at : ℕ) (bs new : List ℕ) (end : ℕ) : Type 0 where
-  pub stored : new ≡ sets old at bs
-  pub after : end ≡ at + length bs
 
 -- the tables of a well-formed graph
 pub record Held (n : ℕ) (parents low high : List ℕ) (edges : ℕ) : Type 0 where

@@ -5,14 +5,15 @@ use sheet::NONE;
 use sheet::judge::Verdict;
 use sheet::read::read;
 ghost use mathlib.Core.Path.{_≡_};
-ghost use Prim.Native.Nat.{ℕ, _+_, _*_, _≤_, _<_};
+ghost use Prim.Native.Nat.{_+_, _*_, _≤_, _<_};
 ghost use mathlib.Core.List.{[], _∷_};
-ghost use lib.ListN.{length, getD};
+ghost use lib.ListN.{length};
 ghost use lib.Seq.{sets};
-ghost use Rattle.finite.specs.Below.{count, spread};
+ghost use Rattle.finite.specs.Below.{count};
 ghost use Rattle.sheet.specs.Judge.{Parents};
 ghost use Rattle.graph.specs.Sheet.{outcome};
-ghost use Rattle.tidy.specs.Tidy.{treeBytes, treesIn, rowBytes, treePart, dominancePart, moreTrees, Held, Written, TidiesTo, Tidies};
+ghost use Rattle.finite.specs.Stores.{Written};
+ghost use Rattle.tidy.specs.Tidy.{treeBytes, treesIn, rowBytes, treePart, dominancePart, moreTrees, Held, TidiesTo, Tidies};
 
 pub enum Tidied {
     // How many bytes were filled.

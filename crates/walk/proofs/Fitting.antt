@@ -19,8 +19,8 @@ use Rattle.listing.proofs.Choosing.{lower-leaf, upper-leaf}
 use Rattle.rows.specs.Rows.{Rows}
 use Rattle.descent.specs.Closing.{Extended}
 use Rattle.descent.proofs.Laws.{adding-rows}
-use Rattle.solvable.specs.Tables as test
-use Rattle.fork.specs.Given.{TreeOf, Ends}
+use Rattle.trees.specs.Trees.{TreeOf}
+use Rattle.fork.specs.Given.{Ends}
 use Rattle.walking.specs.Walk.{Decision, first, second, half, graphAt, Valid}
 use Rattle.walking.proofs.Halves.{half-nodes, half-tree, half-shaped}
 use Rattle.walking.proofs.Decisions.{graph-nodes, graph-tree, graph-own, graph-leaf, graph-root, graph-shaped, few-decisions, Last, valid-popped}
@@ -73,7 +73,7 @@ module _ {g : Graph} {ds : List Decision} (n : ℕ) (v : Valid g ds) where
       }
 
 -- what the test for a solved form asks of a half, and what its answer says
-pub half-fits : (g : Graph) (d : Decision) (n : ℕ) (parents : List ℕ) → TreeOf g n parents → test.TreeOf (half g d) n parents
+pub half-fits : (g : Graph) (d : Decision) (n : ℕ) (parents : List ℕ) → TreeOf g n parents → TreeOf (half g d) n parents
 half-fits g d n parents t =
     record {
       nodes = t .nodes ∙ sym (half-nodes g d);
@@ -82,7 +82,7 @@ half-fits g d n parents t =
 
 -- the test's answer for a half
 abbrev pub Tested : ℕ → List ℕ → Bool → List ℕ → List ℕ → Type 0
-Tested n parents r low high = (h : Graph) → Shaped h → test.TreeOf h n parents → Rows (Descent h) low high → (r ≡ true) ↔ Solvable h
+Tested n parents r low high = (h : Graph) → Shaped h → TreeOf h n parents → Rows (Descent h) low high → (r ≡ true) ↔ Solvable h
 
 false-true : false ≡ true → ⊥
 false-true e = let z : _≡_ {A = ℕ} 0 1 = cc in omega arith

@@ -1,4 +1,3 @@
-pub mod Copies
 pub mod Tables
 pub mod Fitting
 pub mod Walks

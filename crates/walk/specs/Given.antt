@@ -10,7 +10,8 @@ use Rattle.graph.specs.Placing.{Solvable}
 use Rattle.paths.proofs.Shape.{Shaped}
 use Rattle.sheet.specs.Judge.{Parents}
 use Rattle.rows.specs.Rows.{Rows}
-use Rattle.fork.specs.Given.{TreeOf, Ends}
+use Rattle.trees.specs.Trees.{TreeOf}
+use Rattle.fork.specs.Given.{Ends}
 
 -- a table that gives each of n nodes a node
 pub record Owners (n : ℕ) (owners : List ℕ) : Type 0 where
@@ -27,12 +28,6 @@ pub record Owned (g : Graph) (n : ℕ) (owners : List ℕ) : Type 0 where
 pub record Fits (g : Graph) (n : ℕ) (parents owners : List ℕ) : Type 0 where
   pub owned : Owned g n owners
   pub tree : TreeOf g n parents
-
--- the table of roots is filled, and has the bytes from n on that it had
-pub record Filled (n : ℕ) (parents old owners : List ℕ) : Type 0 where
-  pub table : Owners n owners
-  pub are : (g : Graph) → Shaped g → TreeOf g n parents → (v : ℕ) → v < n → getD owners v 0 ≡ own g v
-  pub others : (v : ℕ) → n ≤ v → getD owners v 0 ≡ getD old v 0
 
 -- a graph with a solved form, and its tables
 pub record Sheet (n : ℕ) (parents owners : List ℕ) (leaves roots : NodeSet) (base-low base-high : List ℕ) : Type 0 where

@@ -1,15 +1,14 @@
 // Entering a half, and turning to the other. A half is tested for a solved form before it is entered.
 use crate::replay::add_half;
-use crate::replay::copy_rows;
 use crate::replay::rebuild;
+use rows::copy_rows;
 use solvable::solvable;
 ghost use Prim.Native.Nat.{ℕ, _+_, _<_};
 ghost use lib.ListN.{length, getD};
 ghost use Rattle.graph.specs.Graph.{Graph, Descent};
 ghost use Rattle.graph.specs.Order.{Choice};
 ghost use Rattle.sheet.specs.Judge.{Parents};
-ghost use Rattle.rows.specs.Rows.{Rows};
-ghost use Rattle.descent.specs.Closing.{Long};
+ghost use Rattle.rows.specs.Rows.{Long, Rows};
 ghost use Rattle.walking.specs.Walk.{graphAt, Valid};
 ghost use Rattle.walk.specs.Decisions.{decisions, Within};
 ghost use Rattle.walk.specs.Given.{Owners, Fits};

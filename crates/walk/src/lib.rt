@@ -1,6 +1,5 @@
 // The walk through a solvable graph's readings, in order. It keeps no rows but the current ones: going back, it adds the
 // edges of the decisions that stay to the sheet's rows anew.
 mod halves;
-pub mod owners;
 mod replay;
 pub mod steps;

@@ -1,24 +1,13 @@
 // The rows where decisions have led, from the sheet's rows.
 use descent::add_edge;
-ghost use mathlib.Core.Path.{_≡_};
+use rows::copy_rows;
 ghost use Prim.Native.Nat.{_≤_, _<_};
 ghost use Rattle.graph.specs.Graph.{Graph, Descent, own};
 ghost use Rattle.graph.specs.Order.{adding};
-ghost use Rattle.rows.specs.Rows.{Rows};
-ghost use Rattle.descent.specs.Closing.{Long};
+ghost use Rattle.rows.specs.Rows.{Long, Rows};
 ghost use Rattle.walking.specs.Walk.{graphAt, Valid};
 ghost use Rattle.walk.specs.Decisions.{decisions, Within};
 ghost use Rattle.walk.specs.Given.{Owners, Owned};
-
-pub fn copy_rows(from_low: &[u64], from_high: &[u64], low: &mut [u64], high: &mut [u64])
-    requires { ⌜ Long (now «from_low») (now «from_high») × Long (now low) (now high) ⌝ }
-    ensures { λ _. ⌜ (now (low .exit) ≡ now («from_low» .entry)) × (now (high .exit) ≡ now («from_high» .entry)) ⌝ }
-{
-    for u in 0..128 {
-        low[u] = from_low[u];
-        high[u] = from_high[u];
-    }
-}
 
 // The edge from a leaf to the root of another's fragment.
 pub fn add_half(

@@ -2,15 +2,14 @@
 // the leaf whose root it goes to. It is the first half of its choice where the one that it starts from is the lower.
 use crate::halves::other_half;
 use crate::halves::take_half;
-use crate::replay::copy_rows;
 use fork::choose::Fork;
 use fork::choose::choose;
 use nodeset::NodeSet;
+use rows::copy_rows;
 ghost use Prim.Native.Nat.{ℕ, _+_};
 ghost use Rattle.graph.specs.Graph.{Graph, Descent};
-ghost use Rattle.rows.specs.Rows.{Rows};
+ghost use Rattle.rows.specs.Rows.{Long, Rows};
 ghost use Rattle.sheet.specs.Judge.{Parents};
-ghost use Rattle.descent.specs.Closing.{Long};
 ghost use Rattle.fork.specs.Given.{Ends};
 ghost use Rattle.walking.specs.Walk.{Leaving};
 ghost use Rattle.walk.specs.Decisions.{decisions, Within, Room};

@@ -27,7 +27,8 @@ use Rattle.hypernormal.proofs.Spelt.{Step, Spelt, spelt-hypernormal}
 use Rattle.hypernormal.proofs.Minimal.{Others, joined-without, minimal-sparse, some-edge}
 use Rattle.rows.specs.Rows.{inRow, Tables}
 use Rattle.witness.specs.Thinning.{Unsolved, TakenOut, Thinned, before}
-use Rattle.witness.specs.Searching.{tiedIn, joinedIn, seenIn, Queue, Searched}
+use Rattle.trees.specs.Trees.{tiedIn}
+use Rattle.witness.specs.Searching.{joinedIn, seenIn, Queue, Searched}
 use Rattle.witness.specs.Spelling.{kindIn, Back, Trail, Linked, Ring}
 use Rattle.witness.proofs.Thins.{removed-tables, row-within, thinned-minimal, thinned-shaped}
 use Rattle.witness.proofs.Searches.{few-found, seen-other}

@@ -12,21 +12,14 @@ use Rattle.finite.specs.Below.{count}
 use Rattle.finite.proofs.Laws.{by-bool, or-right, count-one-more, count-le, count-none}
 use Rattle.graph.specs.Graph.{none}
 use Rattle.rows.specs.Rows.{inRow}
-use Rattle.witness.specs.Searching.{tiedIn, joinedIn, seenIn, Queue, Grown, Reached, Visited, Unsearched, Searched}
+use Rattle.trees.specs.Trees.{tiedIn}
+use Rattle.witness.specs.Searching.{joinedIn, seenIn, Queue, Grown, Reached, Visited, Unsearched, Searched}
 
 -- below m + 1 is m, or below m
 pub last-or-old : {C : Type 0} (k m : ℕ) → k < m + 1 → (k ≡ m → C) → (k < m → C) → C
 last-or-old k m h f g = by-bool (ltb k m) (λ t. g (ltb-true k m t)) (λ t. f (omega (arith, ltb-false k m t)))
 
--- the answers of `tied` and `joined`, by cases
-
-pub tied-first : (parents : List ℕ) (u v : ℕ) → getD parents v 0 ≡ u → true ≡ tiedIn parents u v
-unfolding tiedIn
-tied-first parents u v e = rw (eq-eqb (getD parents v 0) u e)
-
-pub tied-second : (parents : List ℕ) (u v : ℕ) → (getD parents v 0 ≡ u → ⊥) → eqb (getD parents u 0) v ≡ tiedIn parents u v
-unfolding tiedIn
-tied-second parents u v e = rw (ne-eqb (getD parents v 0) u e)
+-- the answers of `joined`, by cases
 
 module _ (parents low high : List ℕ) (u v : ℕ) where
   pub joined-first : (b : Bool) → b ≡ tiedIn parents u v → b ≡ true → true ≡ joinedIn parents low high u v

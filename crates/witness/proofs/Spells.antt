@@ -7,16 +7,9 @@ use native.Mathlib.Omega.{arith}
 use lib.ListN.{length, getD, set, drop, length-set}
 use lib.Seq.{getD-set-same, getD-set-other, drop-set-lt, drop-drop}
 use Rattle.graph.specs.Cycle.{node, kind}
-use Rattle.witness.specs.Searching.{tiedIn}
+use Rattle.trees.specs.Trees.{tiedIn}
 use Rattle.witness.specs.Spelling.{kindIn, Back, Trail}
 use Rattle.witness.proofs.Searches.{last-or-old}
-
--- one entry more copied
-pub copy-more : (from to : List ℕ) (i : ℕ) → i < length to → ((k : ℕ) → k < i → getD to k 0 ≡ getD from k 0) → (k : ℕ) → k < i + 1 → getD (set to i (getD from i 0)) k 0 ≡ getD from k 0
-copy-more from to i h same k l =
-    last-or-old k i l
-    (λ (e : k ≡ i). rw e (getD-set-same to i (getD from i 0) 0 h))
-    (λ (m : k < i). getD-set-other to i k (getD from i 0) 0 (λ (e : k ≡ i). omega arith) ∙ same k m)
 
 -- the kind of a step, by the answer b of `tied`
 

@@ -9,10 +9,7 @@ use lib.ListN.{length, getD}
 use Rattle.finite.specs.Below.{count}
 use Rattle.graph.specs.Graph.{none}
 use Rattle.rows.specs.Rows.{inRow}
-
--- one of the two is the other's parent
-unfoldable pub tiedIn : List ℕ → ℕ → ℕ → Bool
-tiedIn parents u v = eqb (getD parents v 0) u || eqb (getD parents u 0) v
+use Rattle.trees.specs.Trees.{tiedIn}
 
 -- an edge joins the two
 unfoldable pub joinedIn : List ℕ → List ℕ → List ℕ → ℕ → ℕ → Bool

@@ -8,7 +8,8 @@ use Rattle.graph.specs.Graph.{Graph, GraphEdge}
 use Rattle.graph.specs.Cycle.{node, kind}
 use Rattle.rows.specs.Rows.{Tables}
 use Rattle.hypernormal.proofs.Connected.{Connected}
-use Rattle.witness.specs.Searching.{tiedIn, joinedIn}
+use Rattle.trees.specs.Trees.{tiedIn}
+use Rattle.witness.specs.Searching.{joinedIn}
 
 -- 2 for tree, 3 for dominance
 unfoldable pub kindIn : List ℕ → ℕ → ℕ → ℕ

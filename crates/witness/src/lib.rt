@@ -3,13 +3,14 @@
 mod minimal;
 mod search;
 
-use descent::under;
 use minimal::first_leaf;
 use minimal::minimize;
 use minimal::take_out;
+use rows::copy_rows;
+use rows::row;
 use search::search;
-use search::tied;
 use sheet::NONE;
+use trees::tied;
 ghost use mathlib.Core.Path.{_≡_};
 ghost use mathlib.Core.Bool.{true};
 ghost use Prim.Native.Nat.{_+_, _*_, _≤_, _<_};
@@ -73,15 +74,6 @@ fn ring(
     c + 1
 }
 
-fn copy(from: &[u64], to: &mut [u64])
-    requires { ⌜ (length (now from) ≡ 128) × (length (now to) ≡ 128) ⌝ }
-    ensures { λ _. ⌜ now (to .exit) ≡ now (from .entry) ⌝ }
-{
-    for i in 0..128 {
-        to[i] = from[i];
-    }
-}
-
 // Writes the cycle as c pairs, node and kind of the edge to the next node, and gives c.
 pub fn witness(
     parent: &[u8],
@@ -100,11 +92,10 @@ pub fn witness(
 {
     let mut low = [0u64; 128];
     let mut high = [0u64; 128];
-    copy(heads_low, &mut low);
-    copy(heads_high, &mut high);
+    copy_rows(heads_low, heads_high, &mut low, &mut high);
     minimize(parent, n, &mut low, &mut high);
     let l = first_leaf(&low, &high, n);
-    let r = under(&low, &high, l).lowest();
+    let r = row(&low, &high, l).lowest();
     take_out(&mut low, &mut high, l, r);
     ring(parent, &low, &high, n, l, r, out)
 }

@@ -1,16 +1,15 @@
 // A minimal set of edges without a solved form: each edge is taken out, and put back if the rest has one.
 use descent::graph_rows;
-use descent::under;
+use rows::row;
 use solvable::solvable;
 ghost use mathlib.Core.Path.{_≡_};
 ghost use mathlib.Core.Bool.{Bool, true};
 ghost use mathlib.Core.Logic.{_↔_};
 ghost use Prim.Native.Nat.{ℕ, _+_, _≤_, _<_};
 ghost use Rattle.finite.specs.Below.{any, least};
-ghost use Rattle.descent.specs.Closing.{Long};
 ghost use Rattle.graph.specs.Graph.{Graph};
 ghost use Rattle.graph.specs.Placing.{Solvable};
-ghost use Rattle.rows.specs.Rows.{inRow, Tables};
+ghost use Rattle.rows.specs.Rows.{Long, inRow, Tables};
 ghost use Rattle.sheet.specs.Judge.{Parents};
 ghost use Rattle.witness.specs.Thinning.{Unsolved, TakenOut, Thinned, andEdge, before};
 
@@ -32,7 +31,7 @@ pub fn take_out(low: &mut [u64], high: &mut [u64], l: usize, r: usize)
     requires { ⌜ Long (now low) (now high) × (l < 128) × (r < 128) ⌝ }
     ensures { λ _. ⌜ TakenOut l r (now (low .entry)) (now (high .entry)) (now (low .exit)) (now (high .exit)) ⌝ }
 {
-    let rest = under(low, high, l).without(r);
+    let rest = row(low, high, l).without(r);
     low[l] = rest.low;
     high[l] = rest.high;
 }
@@ -62,7 +61,7 @@ fn settle_row(parent: &[u8], n: usize, low: &mut [u64], high: &mut [u64], l: usi
         Thinned g n (now (parent .entry)) (now (low .exit)) (now (high .exit)) (before (l + 1)))
         ⌝ }
 {
-    let mut left = under(low, high, l);
+    let mut left = row(low, high, l);
     while !left.is_empty() {
         let r = left.lowest();
         settle(parent, n, low, high, l, r);
@@ -89,7 +88,7 @@ pub fn first_leaf(low: &[u64], high: &[u64], n: usize) -> usize
     ensures { λ r. ⌜ r ≡ least n (λ l. any 128 (inRow (now (low .entry)) (now (high .entry)) l)) ⌝ }
 {
     for l in 0..n {
-        if !under(low, high, l).is_empty() {
+        if !row(low, high, l).is_empty() {
             return l;
         }
     }

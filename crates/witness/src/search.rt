@@ -1,22 +1,12 @@
 // A search from a node over edges taken either way, breadth first.
-use descent::descends;
+use rows::in_row;
 use sheet::NONE;
+use trees::tied;
 ghost use mathlib.Core.Path.{_≡_};
 ghost use Prim.Native.Nat.{_≤_, _<_};
 ghost use lib.ListN.{length, getD};
-ghost use Rattle.descent.specs.Closing.{Long};
-ghost use Rattle.witness.specs.Searching.{tiedIn, joinedIn, Queue, Reached, Visited, Unsearched, Searched};
-
-// One of the two is the other's parent.
-pub fn tied(parent: &[u8], u: usize, v: usize) -> bool
-    requires { ⌜ (length (now parent) ≡ 128) × (u < 128) × (v < 128) ⌝ }
-    ensures { λ r. ⌜ r ≡ tiedIn (now (parent .entry)) u v ⌝ }
-{
-    if parent[v] as usize == u {
-        return true;
-    }
-    parent[u] as usize == v
-}
+ghost use Rattle.rows.specs.Rows.{Long};
+ghost use Rattle.witness.specs.Searching.{joinedIn, Queue, Reached, Visited, Unsearched, Searched};
 
 // An edge joins the two.
 fn joined(parent: &[u8], low: &[u64], high: &[u64], u: usize, v: usize) -> bool
@@ -26,10 +16,10 @@ fn joined(parent: &[u8], low: &[u64], high: &[u64], u: usize, v: usize) -> bool
     if tied(parent, u, v) {
         return true;
     }
-    if descends(low, high, u, v) {
+    if in_row(low, high, u, v) {
         return true;
     }
-    descends(low, high, v, u)
+    in_row(low, high, v, u)
 }
 
 // v, put at the end of the queue if it is joined to the node at `from` and not found yet. Gives the number found.

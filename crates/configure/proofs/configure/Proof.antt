@@ -9,14 +9,15 @@ use denote.Ref.{now}
 use lib.ListN.{length, take, drop, length-take}
 use lib.Seq.{take-at, drop-at}
 use Rattle.graph.specs.Rule1.{Rule1}
-use Rattle.configure.proofs.Held.{parents-given, solved-length}
+use Rattle.trees.proofs.Held.{tables-parents}
+use Rattle.configure.proofs.Held.{solved-length}
 use Rattle.configure.proofs.configure.Statement.{statement}
 use Rattle.configure.proofs.configure.Tie as tie
 
 inner-nodes-requires : tie.Need-inner-nodes-requires
 inner-nodes-requires c κs =
     let t = c .before .before in
-    parents-given (t .args .n) (now (t .args .parent)) (t .pre .sheet)
+    tables-parents (t .pre .sheet .tables)
 
 slice-relend-prefix-steps : tie.Need-slice-relend-prefix-steps
 slice-relend-prefix-steps c =

@@ -5,7 +5,8 @@ use mathlib.Core.Bool.{true, false}
 use denote.Ref.{now}
 use Rattle.nodeset.specs.Set.{mem}
 use Rattle.graph.specs.Graph.{leafOf}
-use Rattle.configure.proofs.Held.{leaf-held}
+use Rattle.trees.proofs.Held.{tree-of, tables-parents, leaf-is, own-is}
+use Rattle.configure.proofs.Held.{shaped}
 use Rattle.configure.proofs.is_leaf_of.Statement.{statement}
 use Rattle.configure.proofs.is_leaf_of.Tie as tie
 
@@ -18,10 +19,10 @@ returns c = λ s.
     let t = c .before .before .before in
     let a = t .args in
     let inner : mem (a .inner) (a .v) ≡ true = sym (c .before .has .ensures) ∙ c .if1 .taken in
-    rw (leaf-held (a .n) (now (a .parent)) s (a .inner) (t .pre .1) (a .v) (t .pre .2), inner)
+    rw (leaf-is (shaped (a .n) (now (a .parent)) s) (tree-of (s .tables)) (a .inner) (t .pre .1) (a .v) (t .pre .2), inner)
 
-climb-requires : tie.Need-climb-requires
-climb-requires c κs = search needs
+own-requires : tie.Need-own-requires
+own-requires c κs = let t = c .before .before .before in (tables-parents (t .pre .0 .tables), t .pre .2)
 
 returns-2 : tie.Need-returns-2
 unfolding leafOf
@@ -29,7 +30,13 @@ returns-2 c = λ s.
     let t = c .before .before .before .before in
     let a = t .args in
     let inner : mem (a .inner) (a .v) ≡ false = sym (c .before .before .has .ensures) ∙ c .before .if1 .left in
-    rw (leaf-held (a .n) (now (a .parent)) s (a .inner) (t .pre .1) (a .v) (t .pre .2), inner, c .climb .ensures s)
+    let shape = shaped (a .n) (now (a .parent)) s in
+    let tree = tree-of (s .tables) in
+    rw (
+      leaf-is shape tree (a .inner) (t .pre .1) (a .v) (t .pre .2),
+      inner,
+      c .own .ensures .0 ∙ own-is shape tree (a .v) (t .pre .2),
+    )
 
 pub is-leaf-of-spec : {M : Type 1} → statement M
-is-leaf-of-spec = tie.close (tie.spec has-requires returns climb-requires returns-2)
+is-leaf-of-spec = tie.close (tie.spec has-requires returns own-requires returns-2)

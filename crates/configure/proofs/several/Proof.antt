@@ -4,8 +4,10 @@ use native.Mathlib.Omega.{arith}
 use Prim.Native.Nat.{_-_, _≤_}
 use mathlib.Core.Path.{_≡_, sym, _∙_}
 use denote.Ref.{now}
-use Rattle.configure.specs.Carried.{Carrying}
-use Rattle.configure.proofs.Choosing.{carrying-none, once-more, twice-more}
+use lib.ListN.{getD}
+use Rattle.finite.proofs.Counting.{none-counted, once-more, twice-more}
+use Rattle.nodeset.proofs.Members.{of-byte-is}
+use Rattle.configure.specs.Carried.{carried, Carrying}
 use Rattle.configure.proofs.several.Statement.{statement}
 use Rattle.configure.proofs.several.Tie as tie
 
@@ -25,15 +27,15 @@ loop-holds : tie.Need-loop-holds Inv-loop μ-loop
 loop-holds c =
     let p = now (c .before .before .before .args .p) in (
       omega arith,
-      λ l h. c .before .empty .ensures l ∙ sym (carrying-none 0 l p),
-      λ l h. c .empty2 .ensures l ∙ sym (carrying-none 1 l p),
+      λ l h. c .before .empty .ensures l ∙ sym (none-counted 1 (carried p l) (omega arith)),
+      λ l h. c .empty2 .ensures l ∙ sym (none-counted 2 (carried p l) (omega arith)),
     )
 
-shared-slice-read-leaf-set : tie.Need-shared-slice-read-leaf-set Inv-loop μ-loop
-shared-slice-read-leaf-set c = search needs
+shared-slice-read-of-byte : tie.Need-shared-slice-read-of-byte Inv-loop μ-loop
+shared-slice-read-of-byte c = search needs
 
-leaf-set-requires : tie.Need-leaf-set-requires Inv-loop μ-loop
-leaf-set-requires c κs = search needs
+of-byte-requires : tie.Need-of-byte-requires Inv-loop μ-loop
+of-byte-requires c κs = search needs
 
 intersection-requires : tie.Need-intersection-requires Inv-loop μ-loop
 intersection-requires c κs = search needs
@@ -54,10 +56,11 @@ loop-again : tie.Need-loop-again Inv-loop μ-loop
 loop-again c =
     let f = c .before .before .before in
     let l = f .before .before .before .loop in
-    let p = now (f .before .before .before .before .before .before .before .args .p) in (
+    let p = now (f .before .before .before .before .before .before .before .args .p) in
+    let leaf = of-byte-is (getD p (l .v) 0) (f .of-byte .result) (f .of-byte .ensures) in (
       omega arith,
-      λ k h. c .union2 .ensures k ∙ rw (f .leaf-set .ensures k h, l .inv .1 k h) (sym (once-more (l .v) p k)),
-      λ k h. c .before .union .ensures k ∙ rw (c .before .before .intersection .ensures k, f .leaf-set .ensures k h, l .inv .1 k h, l .inv .2 k h) (sym (twice-more (l .v) p k)),
+      λ k h. c .union2 .ensures k ∙ rw (leaf k h, l .inv .1 k h) (once-more (l .v) (carried p k)),
+      λ k h. c .before .union .ensures k ∙ rw (c .before .before .intersection .ensures k, leaf k h, l .inv .1 k h, l .inv .2 k h) (twice-more (l .v) (carried p k)),
     )
 
 returns : tie.Need-returns Inv-loop μ-loop
@@ -76,8 +79,8 @@ several-spec =
     empty-requires
     empty-requires-2
     loop-holds
-    shared-slice-read-leaf-set
-    leaf-set-requires
+    shared-slice-read-of-byte
+    of-byte-requires
     intersection-requires
     union-requires
     union-requires-2

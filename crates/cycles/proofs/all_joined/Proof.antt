@@ -9,7 +9,7 @@ use Rattle.graph.specs.Cycle.{node, kind, next}
 use Rattle.graph.specs.Cycle as cycle
 use Rattle.cycles.specs.Check.{joinedIn, allJoined}
 use Rattle.cycles.proofs.Scans.{passed, failed}
-use Rattle.cycles.proofs.Places.{pairs-are, next-below}
+use Rattle.excluding.proofs.Places.{pairs-are, next-below}
 use Rattle.cycles.proofs.all_joined.Statement.{statement}
 use Rattle.cycles.proofs.all_joined.Tie as tie
 

@@ -1,7 +1,7 @@
 -- With two nodes the kinds decide; with more there is nothing to test.
 use mathlib.Core.Path.{sym, _∙_}
 use Rattle.cycles.proofs.Scans.{two-nodes, more-nodes}
-use Rattle.cycles.proofs.Places.{pairs-are}
+use Rattle.excluding.proofs.Places.{pairs-are}
 use borrow.Author.Needs.{needs}
 use Rattle.cycles.proofs.edges_differ.Statement.{statement}
 use Rattle.cycles.proofs.edges_differ.Tie as tie

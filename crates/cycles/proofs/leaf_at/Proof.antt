@@ -4,7 +4,7 @@ use native.Mathlib.Omega.{arith}
 use Rattle.graph.specs.Cycle.{node, kind, next}
 use Rattle.rows.specs.Rows.{inRow}
 use Rattle.cycles.proofs.Scans.{no-leaf, leaf-first, leaf-second}
-use Rattle.cycles.proofs.Places.{next-below}
+use Rattle.excluding.proofs.Places.{next-below}
 use borrow.Author.Needs.{needs}
 use Rattle.cycles.proofs.leaf_at.Statement.{statement}
 use Rattle.cycles.proofs.leaf_at.Tie as tie
@@ -28,12 +28,12 @@ node-at-requires c κs = search needs
 next-at-requires : tie.Need-next-at-requires
 next-at-requires c κs = search needs
 
-dominance-edge-requires : tie.Need-dominance-edge-requires
-dominance-edge-requires c κs =
+in-row-requires : tie.Need-in-row-requires
+in-row-requires c κs =
     let s = c .before .before .before .before .before .before .before in
     let a = s .args in
     let bs = a .cycle .now in
-    (s .pre .0, s .pre .1, omega (arith, c .before .node-at .ensures, s .pre .2 (a .i) (s .pre .3)), omega (arith, c .next-at .ensures, next-below bs 128 (a .i) (s .pre .2) (s .pre .3)))
+    ((s .pre .0, s .pre .1), omega (arith, c .before .node-at .ensures, s .pre .2 (a .i) (s .pre .3)), omega (arith, c .next-at .ensures, next-below bs 128 (a .i) (s .pre .2) (s .pre .3)))
 
 only-requires : tie.Need-only-requires
 only-requires c κs =
@@ -48,8 +48,8 @@ returns-2 c =
     let a = s .args in
     let bs = a .cycle .now in
     let three : kind bs (a .i) ≡ 3 = sym (c .before .before .before .before .before .before .kind-at .ensures) ∙ c .before .before .before .before .before .if1 .left in
-    let row : c .before .before .dominance-edge .result ≡ inRow (a .low .now) (a .high .now) (node bs (a .i)) (next bs (a .i)) =
-    rw (← c .before .before .before .before .node-at .ensures, ← c .before .before .before .next-at .ensures) (c .before .before .dominance-edge .ensures) in
+    let row : c .before .before .in-row .result ≡ inRow (a .low .now) (a .high .now) (node bs (a .i)) (next bs (a .i)) =
+    rw (← c .before .before .before .before .node-at .ensures, ← c .before .before .before .next-at .ensures) (c .before .before .in-row .ensures) in
     λ x. c .only .ensures x ∙ rw (c .before .before .before .before .node-at .ensures) (sym (leaf-first (a .low .now) (a .high .now) bs (a .i) three (sym row ∙ c .before .if2 .taken) x))
 
 only-requires-2 : tie.Need-only-requires-2
@@ -65,8 +65,8 @@ returns-3 c =
     let a = s .args in
     let bs = a .cycle .now in
     let three : kind bs (a .i) ≡ 3 = sym (c .before .before .before .before .before .before .kind-at .ensures) ∙ c .before .before .before .before .before .if1 .left in
-    let row : c .before .before .dominance-edge .result ≡ inRow (a .low .now) (a .high .now) (node bs (a .i)) (next bs (a .i)) =
-    rw (← c .before .before .before .before .node-at .ensures, ← c .before .before .before .next-at .ensures) (c .before .before .dominance-edge .ensures) in
+    let row : c .before .before .in-row .result ≡ inRow (a .low .now) (a .high .now) (node bs (a .i)) (next bs (a .i)) =
+    rw (← c .before .before .before .before .node-at .ensures, ← c .before .before .before .next-at .ensures) (c .before .before .in-row .ensures) in
     λ x. c .only2 .ensures x ∙ rw (c .before .before .before .next-at .ensures) (sym (leaf-second (a .low .now) (a .high .now) bs (a .i) three (sym row ∙ c .before .if2 .left) x))
 
 pub leaf-at-spec : {M : Type 1} → statement M
@@ -78,7 +78,7 @@ leaf-at-spec =
     returns
     node-at-requires
     next-at-requires
-    dominance-edge-requires
+    in-row-requires
     only-requires
     returns-2
     only-requires-2

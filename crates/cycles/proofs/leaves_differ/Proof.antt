@@ -8,7 +8,7 @@ use Rattle.finite.proofs.Laws.{all-fails, all-every}
 use Rattle.nodeset.specs.Set.{mem}
 use Rattle.graph.specs.Cycle as cycle
 use Rattle.cycles.specs.Check.{spare, leavesDiffer}
-use Rattle.cycles.proofs.Places.{pairs-are}
+use Rattle.excluding.proofs.Places.{pairs-are}
 use Rattle.cycles.proofs.Scans.{passed, failed, usedBefore, used-none, used-more, spare-is}
 use borrow.Author.Needs.{needs}
 use Rattle.cycles.proofs.leaves_differ.Statement.{statement}

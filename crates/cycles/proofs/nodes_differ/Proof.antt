@@ -8,7 +8,7 @@ use Rattle.finite.proofs.Laws.{all-fails, all-every}
 use Rattle.nodeset.specs.Set.{mem}
 use Rattle.graph.specs.Cycle.{pairs}
 use Rattle.cycles.specs.Check.{fresh, nodesDiffer}
-use Rattle.cycles.proofs.Places.{pairs-are}
+use Rattle.excluding.proofs.Places.{pairs-are}
 use Rattle.cycles.proofs.Scans.{seenBefore, seen-none, seen-more, node-beyond, node-again, node-new}
 use borrow.Author.Needs.{needs}
 use Rattle.cycles.proofs.nodes_differ.Statement.{statement}

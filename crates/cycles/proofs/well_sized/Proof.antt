@@ -2,7 +2,7 @@
 use native.Mathlib.Omega.{arith}
 use mathlib.Core.Path.{sym}
 use Rattle.cycles.proofs.Scans.{odd, too-few, enough}
-use Rattle.cycles.proofs.Places.{pairs-are}
+use Rattle.excluding.proofs.Places.{pairs-are}
 use Rattle.cycles.proofs.well_sized.Statement.{statement}
 use Rattle.cycles.proofs.well_sized.Tie as tie
 

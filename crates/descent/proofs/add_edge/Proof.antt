@@ -19,14 +19,14 @@ Inv-loop low₀ high₀ n a r more x₀ low high x =
 abbrev μ-loop : tie.MeasureT-loop
 μ-loop low₀ high₀ n a r more x₀ low high x = n - x
 
-under-requires : tie.Need-under-requires Inv-loop μ-loop
-under-requires c κs = search needs
+row-requires : tie.Need-row-requires Inv-loop μ-loop
+row-requires c κs = search needs
 
 with-requires : tie.Need-with-requires Inv-loop μ-loop
 with-requires c κs = search needs
 
 loop-holds : tie.Need-loop-holds Inv-loop μ-loop
-loop-holds c = (omega arith, λ v. c .with .ensures v ∙ rw (c .before .under .ensures v), extended-none _ _ _ _)
+loop-holds c = (omega arith, λ v. c .with .ensures v ∙ rw (c .before .row .ensures v), extended-none _ _ _ _)
 
 extend-requires : tie.Need-extend-requires Inv-loop μ-loop
 extend-requires c κs = search needs
@@ -63,7 +63,7 @@ add-edge-spec =
     (tie.spec
     Inv-loop
     μ-loop
-    under-requires
+    row-requires
     with-requires
     loop-holds
     extend-requires

@@ -1,6 +1,6 @@
 -- The invariant: the edges from the nodes passed are added.
 use Prim.Native.Nat.{_-_, _≤_}
-use mathlib.Core.Path.{_≡_, refl}
+use mathlib.Core.Path.{_≡_}
 use native.Mathlib.Omega.{arith}
 use denote.Ref.{now}
 use borrow.Author.Needs.{needs}
@@ -20,17 +20,8 @@ loop-holds c =
     let a = c .before .before .before .before .args in
     (omega arith, adds-none _ _ _ _ (head-none (now (a .heads-low)) (now (a .heads-high))))
 
-mul-t9 : tie.Need-mul-t9 Inv-loop μ-loop
-mul-t9 c = search needs
-
-shared-slice-read-t11 : tie.Need-shared-slice-read-t11 Inv-loop μ-loop
-shared-slice-read-t11 c = search needs
-
-mul-t12 : tie.Need-mul-t12 Inv-loop μ-loop
-mul-t12 c = search needs
-
-shared-slice-read-t14 : tie.Need-shared-slice-read-t14 Inv-loop μ-loop
-shared-slice-read-t14 c = search needs
+row-requires : tie.Need-row-requires Inv-loop μ-loop
+row-requires c κs = search needs
 
 add-row-requires : tie.Need-add-row-requires Inv-loop μ-loop
 add-row-requires c κs = search needs
@@ -43,11 +34,11 @@ loop-less c = search needs
 
 loop-again : tie.Need-loop-again Inv-loop μ-loop
 loop-again c =
-    let l = c .before .before .before .before .before .before .before .before .before .before .loop in
-    let a = c .before .before .before .before .before .before .before .before .before .before .before .before .before .before .before .args in (
+    let l = c .before .before .before .before .before .before .before .before .before .loop in
+    let a = c .before .before .before .before .before .before .before .before .before .before .before .before .before .before .args in (
       omega arith,
       adds-ext
-          (head-more (l .l) (now (a .heads-low)) (now (a .heads-high)) _ (λ v. refl))
+          (head-more (l .l) (now (a .heads-low)) (now (a .heads-high)) _ (c .before .before .before .before .before .before .before .row .ensures))
           (adds-more
           (head-from (a .n) (l .l) (now (a .heads-low)) (now (a .heads-high)) (omega arith))
           (l .inv .1)
@@ -73,10 +64,7 @@ add-heads-spec =
     Inv-loop
     μ-loop
     loop-holds
-    mul-t9
-    shared-slice-read-t11
-    mul-t12
-    shared-slice-read-t14
+    row-requires
     add-row-requires
     add-l
     loop-less

@@ -20,13 +20,13 @@ abbrev μ-loop : tie.MeasureT-loop
 loop-holds : tie.Need-loop-holds Inv-loop μ-loop
 loop-holds c = (omega arith, below-none _)
 
-descends-requires : tie.Need-descends-requires Inv-loop μ-loop
-descends-requires c κs = search needs
+in-row-requires : tie.Need-in-row-requires Inv-loop μ-loop
+in-row-requires c κs = search needs
 
 returns : tie.Need-returns Inv-loop μ-loop
 returns c =
     let a = c .before .before .before .before .before .before .args in
-    sym (any-at (a .n) (λ u. inRow (now (a .low)) (now (a .high)) u u) (c .before .before .before .loop .u) (omega arith) (sym (c .before .descends .ensures) ∙ c .if1 .taken))
+    sym (any-at (a .n) (λ u. inRow (now (a .low)) (now (a .high)) u u) (c .before .before .before .loop .u) (omega arith) (sym (c .before .in-row .ensures) ∙ c .if1 .taken))
 
 add-u : tie.Need-add-u Inv-loop μ-loop
 add-u c = search needs
@@ -37,7 +37,7 @@ loop-less c = search needs
 loop-again : tie.Need-loop-again Inv-loop μ-loop
 loop-again c = (
   omega arith,
-  below-more _ _ (c .before .before .before .loop .inv .1) (sym (c .before .descends .ensures) ∙ c .if1 .left),
+  below-more _ _ (c .before .before .before .loop .inv .1) (sym (c .before .in-row .ensures) ∙ c .if1 .left),
 )
 
 returns-2 : tie.Need-returns-2 Inv-loop μ-loop
@@ -53,7 +53,7 @@ cyclic-spec =
     Inv-loop
     μ-loop
     loop-holds
-    descends-requires
+    in-row-requires
     returns
     add-u
     loop-less

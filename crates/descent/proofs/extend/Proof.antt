@@ -8,8 +8,8 @@ use borrow.Author.Needs.{needs}
 use Rattle.descent.proofs.extend.Statement.{statement}
 use Rattle.descent.proofs.extend.Tie as tie
 
-under-requires : tie.Need-under-requires
-under-requires c κs = search needs
+row-requires : tie.Need-row-requires
+row-requires c κs = search needs
 
 with-requires : tie.Need-with-requires
 with-requires c κs = search needs
@@ -42,8 +42,8 @@ returns : tie.Need-returns
 returns c =
     let a = c .before .before .before .before .before .before .before .before .before .args in
     row-joined (a .a) (a .x) (a .more) (now (a .low)) (now (a .high)) _ _ (omega arith) (omega arith)
-    (rw (eqb-sym (a .x) (a .a), ← c .before .before .before .before .under .ensures (a .a), ← c .before .before .before .with .ensures (a .a), ← c .before .before .has .ensures) (c .before .if1 .taken))
-    (λ j. c .union .ensures j ∙ rw (c .before .before .before .before .under .ensures j))
+    (rw (eqb-sym (a .x) (a .a), ← c .before .before .before .before .row .ensures (a .a), ← c .before .before .before .with .ensures (a .a), ← c .before .before .has .ensures) (c .before .if1 .taken))
+    (λ j. c .union .ensures j ∙ rw (c .before .before .before .before .row .ensures j))
 
 same-length-3 : tie.Need-same-length-3
 same-length-3 c = search needs
@@ -55,13 +55,13 @@ returns-2 : tie.Need-returns-2
 returns-2 c =
     let a = c .before .before .before .before .before .before .before .before .args in
     row-kept (a .a) (a .x) (a .more) (now (a .low)) (now (a .high))
-    (rw (eqb-sym (a .x) (a .a), ← c .before .before .before .under .ensures (a .a), ← c .before .before .with .ensures (a .a), ← c .before .has .ensures) (c .if1 .left))
+    (rw (eqb-sym (a .x) (a .a), ← c .before .before .before .row .ensures (a .a), ← c .before .before .with .ensures (a .a), ← c .before .has .ensures) (c .if1 .left))
 
 pub extend-spec : {M : Type 1} → statement M
 extend-spec =
     tie.close
     (tie.spec
-    under-requires
+    row-requires
     with-requires
     has-requires
     union-requires

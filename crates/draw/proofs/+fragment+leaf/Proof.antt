@@ -11,8 +11,10 @@ use borrow.Author.Needs.{needs}
 use borrow.Author.Tests.{eq-eqb, ne-eqb, eqb-false}
 use Rattle.finite.specs.Below.{any}
 use Rattle.graph.specs.Text.{decimal}
-use Rattle.draw.specs.Drawn.{leafIn, fragmentIn, leafAt, hungAt, leavesIn, hungIn, Written}
-use Rattle.draw.proofs.Texts.{written-none, written-one, written-more, fragment-none, fragment-some, fragment-length, leaf-length, leaf-plain, leaf-hung}
+use Rattle.finite.specs.Stores.{Written}
+use Rattle.draw.specs.Drawn.{leafIn, fragmentIn, leafAt, hungAt, leavesIn, hungIn}
+use Rattle.finite.proofs.Stores.{written-none, written-one, written-more}
+use Rattle.draw.proofs.Texts.{fragment-none, fragment-some, fragment-length, leaf-length, leaf-plain, leaf-hung}
 use Rattle.draw.proofs.Loops.{Running, running-none, running-skip, running-done, marked-none, marked-skip, marked-take, mark-first, mark-other, mark-room, mark-take}
 use borrow.Fn.Kinds.{In}
 use borrow.Fn.PlainCycle.{Measures, is, falls, and}

@@ -5,7 +5,7 @@ use native.Mathlib.Omega.{arith}
 use denote.Ref.{now}
 use lib.ListN.{length, getD, length-set}
 use borrow.Author.Count.{below-none}
-use Rattle.fragments.proofs.Owned.{entry-more}
+use Rattle.finite.proofs.Stores.{entry-more}
 use Rattle.draw.specs.Drawn.{homeIn}
 use borrow.Author.Needs.{needs}
 use Rattle.draw.proofs.fill_homes.Statement.{statement}

@@ -4,7 +4,7 @@ use native.Mathlib.Omega.{arith}
 use denote.Ref.{now}
 use lib.ListN.{length}
 use borrow.Author.Tests.{eq-eqb, ne-eqb}
-use Rattle.draw.proofs.Texts.{written-none, written-one}
+use Rattle.finite.proofs.Stores.{written-none, written-one}
 use borrow.Author.Needs.{needs}
 use Rattle.draw.proofs.join.Statement.{statement}
 use Rattle.draw.proofs.join.Tie as tie

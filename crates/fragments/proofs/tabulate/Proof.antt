@@ -58,7 +58,7 @@ returns-2 c =
     let r = f .before .before .root-nodes in
     let k = f .before .count in
     let a = f .before .before .before .before .before .args in
-    full-table (a .n) (now (a .parent)) (r .result) (r .ensures) (k .result) (k .ensures) (i .inner-nodes .result) _ (i .inner-nodes .ensures) (o .ensures) (now (a .out)) _ (f .if1 .left) (c .before .before .fill .ensures)
+    full-table (a .n) (now (a .parent)) (r .result) (r .ensures) (k .result) (k .ensures) (i .inner-nodes .result) _ _ (i .inner-nodes .ensures) (o .ensures) (now (a .out)) _ (f .if1 .left) (c .before .before .fill .ensures)
 
 pub tabulate-spec : {M : Type 1} → statement M
 tabulate-spec =

@@ -3,7 +3,7 @@ use mathlib.Core.Path.{sym, _∙_}
 use denote.Ref.{now}
 use Rattle.graph.specs.Placing.{placing}
 use Rattle.paths.proofs.Shape.{well-formed-shaped}
-use Rattle.fork.proofs.Trees.{roots-within}
+use Rattle.trees.proofs.Held.{roots-within}
 use Rattle.placings.proofs.Shapes.{not-true, not-false, placing-links}
 use Rattle.placings.proofs.Verdicts.{ends-here, placed-here, not-placing, is-solved, not-solved, noes-answered, yes-answered}
 use borrow.Author.Needs.{needs}

@@ -5,7 +5,7 @@ use borrow.Author.Needs.{needs}
 use Rattle.rows.specs.Rows.{inRow}
 use Rattle.solvable.proofs.Solved.{answer-is}
 use Rattle.solvable.proofs.Filled.{blank-rows, near-symmetric}
-use Rattle.solvable.proofs.Trees.{root-is}
+use Rattle.trees.proofs.Held.{root-is}
 use Rattle.solvable.proofs.solvable.Statement.{statement}
 use Rattle.solvable.proofs.solvable.Tie as tie
 
@@ -65,7 +65,7 @@ returns c g shaped tree rows =
     let s = r .before .before .before .before in
     answer-is g shaped (inRow (now (s .args .low)) (now (s .args .high)))
     (inRow (n .near-rows .last .1 .1 .1 .0) (n .near-rows .last .1 .1 .1 .1 .0)) (inRow (l .leaf-rows .last .1 .1 .1 .0) (l .leaf-rows .last .1 .1 .1 .1 .0))
-    (r .root-nodes .result) (λ v. r .root-nodes .ensures v ∙ root-is g shaped _ _ tree v) (rows .row-is) (n .near-rows .ensures .near-is)
+    (r .root-nodes .result) (λ v. r .root-nodes .ensures v ∙ root-is shaped tree v) (rows .row-is) (n .near-rows .ensures .near-is)
     (l .leaf-rows .ensures .leaf-of g shaped tree) (c .eliminate .result) (c .eliminate .ensures)
 
 pub solvable-spec : {M : Type 1} → statement M

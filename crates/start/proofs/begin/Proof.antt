@@ -30,7 +30,7 @@ same-length-3 c = search needs
 returns : tie.Need-returns
 returns c =
     λ s.
-    started s _ _ _ _ _ (c .before .before .before .before .before .before .before .owners .ensures) (c .before .before .before .before .before .before .before .before .before .before .before .before .before .graph-rows .ensures (s .graph) (s .edges) (s .tables)) (c .before .before .solvable .ensures) (c .before .leaf-nodes .ensures) (c .root-nodes .ensures)
+    started s _ _ _ _ _ (c .before .before .before .before .before .before .before .before .before .before .before .before .before .before .before .before .before .before .before .before .before .before .pre .1) (c .before .before .before .before .before .before .before .owners .ensures) (c .before .before .before .before .before .before .before .before .before .before .before .before .before .graph-rows .ensures (s .graph) (s .edges) (s .tables)) (c .before .before .solvable .ensures) (c .before .leaf-nodes .ensures) (c .root-nodes .ensures)
 
 pub begin-spec : {M : Type 1} → statement M
 begin-spec =

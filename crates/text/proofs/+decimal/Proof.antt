@@ -5,7 +5,7 @@ use borrow.Author.Needs.{needs}
 use borrow.Fn.Kinds.{In}
 use borrow.Fn.PlainCycle.{Measures, is, falls, and}
 use Rattle.text.proofs.Digits.{decimal-last, decimal-more, decimal-one, decimal-more-length}
-use Rattle.text.proofs.Stores.{written-one, written-byte}
+use Rattle.finite.proofs.Stores.{written-one, written-byte}
 use Rattle.text.proofs.decimal.Reads as decimal
 use Rattle.text.proofs.decimal.Kinds as decimal-kinds
 use Rattle.text.proofs.+decimal.Lts-decimal as decimal-lts

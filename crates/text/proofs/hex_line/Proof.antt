@@ -6,8 +6,9 @@ use denote.Ref.{now}
 use lib.ListN.{length, take, length-set}
 use lib.Seq.{take-length}
 use borrow.Author.Needs.{needs}
-use Rattle.text.specs.Lines.{Written, hexBytes}
-use Rattle.text.proofs.Stores.{written-none, written-byte, written-two, written-length}
+use Rattle.finite.specs.Stores.{Written}
+use Rattle.text.specs.Lines.{hexBytes}
+use Rattle.finite.proofs.Stores.{written-none, written-byte, written-two, written-length}
 use Rattle.text.proofs.Digits.{hex-none, hex-more}
 use Rattle.text.proofs.Lines.{hex-line-is, hex-line-length}
 use Rattle.text.proofs.hex_line.Statement.{statement}

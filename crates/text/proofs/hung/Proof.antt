@@ -11,7 +11,7 @@ use Rattle.nodeset.specs.Set.{mem}
 use Rattle.nodeset.proofs.NodeSet.has.Reads as has-reads
 use Rattle.graph.specs.Text.{decimal}
 use Rattle.text.specs.Lines.{hungAt}
-use Rattle.text.proofs.Stores.{written-none, written-one, written-more, written-length}
+use Rattle.finite.proofs.Stores.{written-none, written-one, written-more, written-length}
 use Rattle.text.proofs.Lines.{hung-top, hung-no-root, hung-is, hung-length}
 use Rattle.text.proofs.decimal.Reads as decimal-reads
 use Rattle.text.proofs.hung.Statement.{statement}

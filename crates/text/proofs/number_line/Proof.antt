@@ -1,7 +1,7 @@
 -- The word, the number and the line feed are stored one after the other.
 use native.Mathlib.Omega.{arith}
 use denote.Ref.{now}
-use Rattle.text.proofs.Stores.{written-more, written-byte, written-length}
+use Rattle.finite.proofs.Stores.{written-more, written-byte, written-length}
 use Rattle.text.proofs.Lines.{number-line-length}
 use Rattle.text.proofs.number_line.Statement.{statement}
 use Rattle.text.proofs.number_line.Tie as tie

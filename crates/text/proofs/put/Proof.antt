@@ -8,8 +8,8 @@ use denote.Ref.{now}
 use lib.ListN.{length, take, length-set}
 use lib.Seq.{take-suc, take-length}
 use borrow.Author.Needs.{needs}
-use Rattle.text.specs.Lines.{Written}
-use Rattle.text.proofs.Stores.{written-byte}
+use Rattle.finite.specs.Stores.{Written}
+use Rattle.finite.proofs.Stores.{written-byte}
 use Rattle.text.proofs.put.Statement.{statement}
 use Rattle.text.proofs.put.Tie as tie
 

@@ -5,8 +5,9 @@ use native.Mathlib.Omega.{arith}
 use denote.Ref.{now}
 use lib.ListN.{length, getD}
 use borrow.Author.Needs.{needs}
-use Rattle.text.specs.Lines.{Written, hungAt, hungIn}
-use Rattle.text.proofs.Stores.{written-none, written-more, written-byte, written-length, room}
+use Rattle.finite.specs.Stores.{Written}
+use Rattle.text.specs.Lines.{hungAt, hungIn}
+use Rattle.finite.proofs.Stores.{written-none, written-more, written-byte, written-length, room}
 use Rattle.text.proofs.Lines.{hung-none, hung-more, hung-longer, reading-is, reading-length, reading-short}
 use Rattle.text.proofs.reading_line.Statement.{statement}
 use Rattle.text.proofs.reading_line.Tie as tie

@@ -3,8 +3,6 @@ use borrow.Author.Tests.{eq-eqb, ne-eqb}
 use borrow.Author.Needs.{needs}
 use Rattle.tidy.proofs.more.Statement.{statement}
 use Rattle.tidy.proofs.more.Tie as tie
-use Rattle.tidy.proofs.more.Reads as reads
-use Rattle.tidy.proofs.more.Lts as lts
 
 add-result : tie.Need-add-result
 add-result c = search needs

@@ -4,8 +4,6 @@ use native.Mathlib.Numerals.{add-one, add-two}
 use borrow.Author.Needs.{needs}
 use Rattle.tidy.proofs.put.Statement.{statement}
 use Rattle.tidy.proofs.put.Tie as tie
-use Rattle.tidy.proofs.put.Reads as reads
-use Rattle.tidy.proofs.put.Lts as lts
 
 slice-write-out : tie.Need-slice-write-out
 slice-write-out c = search needs

@@ -4,13 +4,10 @@ use lib.ListN.{length}
 use denote.Ref.{now}
 use native.Mathlib.Omega.{arith}
 use borrow.Author.Tests.{eq-eqb, ne-eqb}
-use Rattle.tidy.proofs.Runs.{written-none}
+use Rattle.finite.proofs.Stores.{written-none}
 use borrow.Author.Needs.{needs}
 use Rattle.tidy.proofs.put_tree.Statement.{statement}
 use Rattle.tidy.proofs.put_tree.Tie as tie
-use Rattle.tidy.proofs.put_tree.Reads as reads
-use Rattle.tidy.proofs.put_tree.Lts as lts
-use Rattle.tidy.proofs.put.Reads as put-reads
 
 returns : tie.Need-returns
 returns c = rw (eq-eqb (c .before .before .args .p) 255 (c .if1 .taken)) (written-none _ _)

@@ -4,10 +4,6 @@ use Rattle.rows.proofs.Answers.{answered-refused, answered-accepted}
 use borrow.Author.Needs.{needs}
 use Rattle.tidy.proofs.tidy.Statement.{statement}
 use Rattle.tidy.proofs.tidy.Tie as tie
-use Rattle.tidy.proofs.tidy.Reads as reads
-use Rattle.tidy.proofs.tidy.Lts as lts
-use Rattle.sheet.proofs.read.read.Reads as read-reads
-use Rattle.tidy.proofs.write.Reads as write-reads
 
 read-requires : tie.Need-read-requires
 read-requires c κs = search needs

@@ -1,15 +1,12 @@
 use lib.ListN.{getD}
-use Prim.Native.Nat.{ℕ, _+_, _-_, _≤_, _<_}
-use mathlib.Core.Path.{_≡_, refl, sym, ap, _∙_}
+use Prim.Native.Nat.{_-_, _≤_}
+use mathlib.Core.Path.{_≡_, sym, _∙_}
 use native.Mathlib.Omega.{arith}
 use Rattle.tidy.specs.Tidy.{treesIn}
 use Rattle.tidy.proofs.Runs.{trees-none, trees-more, more-le}
 use borrow.Author.Needs.{needs}
 use Rattle.tidy.proofs.tree_edges.Statement.{statement}
 use Rattle.tidy.proofs.tree_edges.Tie as tie
-use Rattle.tidy.proofs.tree_edges.Reads as reads
-use Rattle.tidy.proofs.tree_edges.Lts as lts
-use Rattle.tidy.proofs.more.Reads as more-reads
 
 abbrev Inv-loop : tie.InvT-loop
 Inv-loop parent n count₀ c₀ count c = (c ≤ n) × (count ≡ treesIn c parent) × (count ≤ c)

@@ -1,4 +1,4 @@
-use mathlib.Core.Path.{ap, sym, _∙_}
+use mathlib.Core.Path.{ap, _∙_}
 use Prim.Native.Nat.{_≤_}
 use native.Mathlib.Omega.{arith}
 use lib.ListN.{length, length-set}
@@ -10,11 +10,6 @@ use Rattle.tidy.proofs.Held.{held-parents, held-few, held-low, held-hig
 use borrow.Author.Needs.{needs}
 use Rattle.tidy.proofs.write.Statement.{statement}
 use Rattle.tidy.proofs.write.Tie as tie
-use Rattle.tidy.proofs.write.Reads as reads
-use Rattle.tidy.proofs.write.Lts as lts
-use Rattle.tidy.proofs.tree_edges.Reads as tree-edges-reads
-use Rattle.tidy.proofs.write_dominance.Reads as write-dominance-reads
-use Rattle.tidy.proofs.write_tree.Reads as write-tree-reads
 
 tree-edges-requires : tie.Need-tree-edges-requires
 tree-edges-requires c κs =

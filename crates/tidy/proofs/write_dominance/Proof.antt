@@ -1,19 +1,17 @@
 use denote.Ref.{now}
 use lib.ListN.{getD}
 use Rattle.tidy.specs.Tidy.{rowBytes}
-use Rattle.tidy.proofs.Runs.{room, dominance-part-none, dominance-part-more, dominance-part-longer}
-use Prim.Native.Nat.{ℕ, _+_, _-_, _≤_, _<_}
-use mathlib.Core.Path.{_≡_, refl, sym, ap, _∙_}
+use Rattle.tidy.proofs.Runs.{dominance-part-none, dominance-part-more, dominance-part-longer}
+use Prim.Native.Nat.{_+_, _-_, _≤_}
+use mathlib.Core.Path.{_≡_, refl, _∙_}
 use native.Mathlib.Omega.{arith}
 use lib.ListN.{length}
-use Rattle.tidy.specs.Tidy.{dominancePart, Written}
-use Rattle.tidy.proofs.Runs.{written-none, written-more}
+use Rattle.finite.specs.Stores.{Written}
+use Rattle.tidy.specs.Tidy.{dominancePart}
+use Rattle.finite.proofs.Stores.{room, written-none, written-more}
 use borrow.Author.Needs.{needs}
 use Rattle.tidy.proofs.write_dominance.Statement.{statement}
 use Rattle.tidy.proofs.write_dominance.Tie as tie
-use Rattle.tidy.proofs.write_dominance.Reads as reads
-use Rattle.tidy.proofs.write_dominance.Lts as lts
-use Rattle.tidy.proofs.write_row.Reads as write-row-reads
 
 abbrev Inv-loop : tie.InvT-loop
 Inv-loop low high n out₀ start at₀ l₀ out at l = (l ≤ n) × (length out ≡ length out₀) × Written out₀ start (dominancePart l low high) out at

@@ -2,7 +2,7 @@ use mathlib.Core.Bool.{true, false, not}
 use Rattle.finite.specs.Below.{any}
 use Rattle.finite.proofs.Laws.{not-not}
 use Rattle.tidy.proofs.Runs.{row-none, next-below, row-room, row-more, row-less, row-done}
-use Prim.Native.Nat.{ℕ, _+_, _-_, _≤_, _<_}
+use Prim.Native.Nat.{_-_, _<_}
 use mathlib.Core.Path.{_≡_, refl, sym, ap, _∙_}
 use native.Mathlib.Omega.{arith}
 use lib.ListN.{length}
@@ -12,12 +12,6 @@ use Rattle.tidy.proofs.Runs.{RowLeft}
 use borrow.Author.Needs.{needs}
 use Rattle.tidy.proofs.write_row.Statement.{statement}
 use Rattle.tidy.proofs.write_row.Tie as tie
-use Rattle.tidy.proofs.write_row.Reads as reads
-use Rattle.tidy.proofs.write_row.Lts as lts
-use Rattle.nodeset.proofs.NodeSet.is_empty.Reads as is-empty-reads
-use Rattle.nodeset.proofs.NodeSet.lowest.Reads as lowest-reads
-use Rattle.nodeset.proofs.NodeSet.without.Reads as without-reads
-use Rattle.tidy.proofs.put.Reads as put-reads
 
 abbrev Inv-loop : tie.InvT-loop
 Inv-loop l out₀ start left₀ at₀ out left at = (length out ≡ length out₀) × RowLeft l left₀ left out₀ start out at

@@ -1,19 +1,17 @@
 use denote.Ref.{now}
 use lib.ListN.{getD}
 use Rattle.tidy.specs.Tidy.{treeBytes}
-use Rattle.tidy.proofs.Runs.{room, tree-part-none, tree-part-more, tree-part-longer}
-use Prim.Native.Nat.{ℕ, _+_, _-_, _≤_, _<_}
-use mathlib.Core.Path.{_≡_, refl, sym, ap, _∙_}
+use Rattle.tidy.proofs.Runs.{tree-part-none, tree-part-more, tree-part-longer}
+use Prim.Native.Nat.{_+_, _-_, _≤_}
+use mathlib.Core.Path.{_≡_, refl, _∙_}
 use native.Mathlib.Omega.{arith}
 use lib.ListN.{length}
-use Rattle.tidy.specs.Tidy.{treePart, Written}
-use Rattle.tidy.proofs.Runs.{written-none, written-more}
+use Rattle.finite.specs.Stores.{Written}
+use Rattle.tidy.specs.Tidy.{treePart}
+use Rattle.finite.proofs.Stores.{room, written-none, written-more}
 use borrow.Author.Needs.{needs}
 use Rattle.tidy.proofs.write_tree.Statement.{statement}
 use Rattle.tidy.proofs.write_tree.Tie as tie
-use Rattle.tidy.proofs.write_tree.Reads as reads
-use Rattle.tidy.proofs.write_tree.Lts as lts
-use Rattle.tidy.proofs.put_tree.Reads as put-tree-reads
 
 abbrev Inv-loop : tie.InvT-loop
 Inv-loop parent n out₀ start at₀ c₀ out at c = (c ≤ n) × (length out ≡ length out₀) × Written out₀ start (treePart c parent) out at

@@ -4,7 +4,6 @@ use Rattle.witness.proofs.Spells.{kind-tree, kind-dominance}
 use borrow.Author.Needs.{needs}
 use Rattle.witness.proofs.kind.Statement.{statement}
 use Rattle.witness.proofs.kind.Tie as tie
-use Rattle.witness.proofs.search.tied.Reads as tied-reads
 
 tied-requires : tie.Need-tied-requires
 tied-requires c κs = search needs

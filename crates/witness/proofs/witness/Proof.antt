@@ -10,9 +10,8 @@ use Rattle.finite.specs.Below.{any}
 use Rattle.finite.proofs.Laws.{any-ext}
 use Rattle.nodeset.specs.Set.{mem}
 use Rattle.paths.proofs.Shape.{well-formed-shaped}
-use Rattle.descent.specs.Closing.{Long}
-use Rattle.descent.proofs.Held.{tables-parents}
-use Rattle.rows.specs.Rows.{inRow}
+use Rattle.rows.specs.Rows.{Long, inRow}
+use Rattle.trees.proofs.Held.{tables-parents}
 use Rattle.witness.specs.Thinning.{Unsolved, Thinned, before}
 use Rattle.witness.proofs.Cycles.{few-nodes, copied, lowest-of, first-leaf-is, linked, ring-cycle}
 use borrow.Author.Needs.{needs}
@@ -22,7 +21,7 @@ use Rattle.witness.proofs.witness.Tie as tie
 -- after the edges are thinned out: the entry, and the rows that hold what is kept
 
 abbrev start : tie.After-minimize → tie.Start
-start c = c .before .before .before .before .before .before .before .before .before .before .before .before .before
+start c = c .before .before .before .before .before .before .before .before .before .before .before .before
 
 abbrev low : tie.After-minimize → List ℕ
 low c = c .minimize .last .1 .1 .0
@@ -34,9 +33,8 @@ thin : (c : tie.After-minimize) (u : Unsolved (start c .args .n) (now (start c .
     → Thinned (u .graph) (start c .args .n) (now (start c .args .parent)) (low c) (high c) (before (start c .args .n))
 thin c u =
     let a = start c .args in
-    let k = c .before .before .before .before .before .before .before .copy in
-    let m = c .before .before .before .before .copy2 in
-    c .minimize .ensures (copied (a .n) (now (a .parent)) (now (a .heads-low)) (now (a .heads-high)) (k .last .1 .0) (m .last .1 .0) (k .ensures) (m .ensures) u)
+    let k = c .before .before .before .before .before .copy-rows in
+    c .minimize .ensures (copied (a .n) (now (a .parent)) (now (a .heads-low)) (now (a .heads-high)) _ _ (k .ensures .0) (k .ensures .1) u)
 
 long : (c : tie.After-minimize) → Long (low c) (high c)
 long c =
@@ -63,23 +61,22 @@ first-small c = omega (arith, first c .0, small (c .before .before .before .befo
 edge-of : (c : tie.After-lowest) → (c .lowest .result < 128) × (inRow (low (c .before .before .before .before .before .before .before .before .before)) (high (c .before .before .before .before .before .before .before .before .before)) (c .before .before .before .before .first-leaf .result) (c .lowest .result) ≡ true)
 edge-of c =
     let m = c .before .before .before .before .before .before .before .before .before in
-    let row = c .before .under in
+    let row = c .before .row in
     let some : any 128 (mem (row .result)) ≡ true =
     any-ext 128 (mem (row .result)) (inRow (low m) (high m) (c .before .before .before .before .first-leaf .result)) (λ k h. row .ensures k) ∙ first (c .before .before .before .before) .1 in
     let x = lowest-of (mem (row .result)) 128 (c .lowest .result) some (c .lowest .ensures) in
     (x .0, sym (row .ensures (c .lowest .result)) ∙ x .1)
 
-slice-aggregate-copy : tie.Need-slice-aggregate-copy
-slice-aggregate-copy c = search needs
+slice-aggregate-copy-rows : tie.Need-slice-aggregate-copy-rows
+slice-aggregate-copy-rows c = search needs
 
-copy-requires : tie.Need-copy-requires
-copy-requires c κs = (c .before .before .before .before .before .pre .0 .tables .holds .low-long, search needs)
+slice-aggregate-copy-rows-2 : tie.Need-slice-aggregate-copy-rows-2
+slice-aggregate-copy-rows-2 c = search needs
 
-slice-aggregate-copy-2 : tie.Need-slice-aggregate-copy-2
-slice-aggregate-copy-2 c = search needs
-
-copy-requires-2 : tie.Need-copy-requires-2
-copy-requires-2 c κs = (c .before .before .before .before .before .before .before .before .pre .0 .tables .holds .high-long, search needs)
+copy-rows-requires : tie.Need-copy-rows-requires
+copy-rows-requires c κs =
+    let h = c .before .before .before .before .before .before .pre .0 .tables .holds in
+    ((h .low-long, h .high-long), search needs)
 
 slice-aggregate-minimize : tie.Need-slice-aggregate-minimize
 slice-aggregate-minimize c = search needs
@@ -89,10 +86,9 @@ slice-aggregate-minimize-2 c = search needs
 
 minimize-requires : tie.Need-minimize-requires
 minimize-requires c κs =
-    let u = c .before .before .before .before .before .before .before .before .before .before .before .before .pre .0 in (
-      tables-parents (u .graph) (u .tables),
-      (ap length (c .before .before .before .before .before .before .copy .ensures) ∙ u .tables .holds .low-long, ap length (c .before .before .before .copy2 .ensures) ∙ u .tables .holds .high-long),
-    )
+    let u = c .before .before .before .before .before .before .before .before .before .before .before .pre .0 in
+    let k = c .before .before .before .before .copy-rows in
+    (tables-parents (u .tables), (ap length (k .ensures .0) ∙ u .tables .holds .low-long, ap length (k .ensures .1) ∙ u .tables .holds .high-long))
 
 slice-aggregate-first-leaf : tie.Need-slice-aggregate-first-leaf
 slice-aggregate-first-leaf c = search needs
@@ -103,14 +99,14 @@ slice-aggregate-first-leaf-2 c = search needs
 first-leaf-requires : tie.Need-first-leaf-requires
 first-leaf-requires c κs = (long (c .before .before .before .before), small (c .before .before .before .before))
 
-slice-aggregate-under : tie.Need-slice-aggregate-under
-slice-aggregate-under c = search needs
+slice-aggregate-row : tie.Need-slice-aggregate-row
+slice-aggregate-row c = search needs
 
-slice-aggregate-under-2 : tie.Need-slice-aggregate-under-2
-slice-aggregate-under-2 c = search needs
+slice-aggregate-row-2 : tie.Need-slice-aggregate-row-2
+slice-aggregate-row-2 c = search needs
 
-under-requires : tie.Need-under-requires
-under-requires c κs = (long (c .before .before .before .before .before .before .before), first-small (c .before .before))
+row-requires : tie.Need-row-requires
+row-requires c κs = (long (c .before .before .before .before .before .before .before), first-small (c .before .before))
 
 lowest-requires : tie.Need-lowest-requires
 lowest-requires c κs = search needs
@@ -161,19 +157,18 @@ pub witness-spec : {M : Type 1} → statement M
 witness-spec =
     tie.close
     (tie.spec
-    slice-aggregate-copy
-    copy-requires
-    slice-aggregate-copy-2
-    copy-requires-2
+    slice-aggregate-copy-rows
+    slice-aggregate-copy-rows-2
+    copy-rows-requires
     slice-aggregate-minimize
     slice-aggregate-minimize-2
     minimize-requires
     slice-aggregate-first-leaf
     slice-aggregate-first-leaf-2
     first-leaf-requires
-    slice-aggregate-under
-    slice-aggregate-under-2
-    under-requires
+    slice-aggregate-row
+    slice-aggregate-row-2
+    row-requires
     lowest-requires
     slice-aggregate-take-out
     slice-aggregate-take-out-2

@@ -11,7 +11,7 @@ use Rattle.counter.proofs.tables.drawing_of.Tie as tie
 
 returns : tie.Need-returns
 returns c =
-    λ s. small-drawing s _ _ (c .if1 .taken)
+    λ s. small-drawing s _ _ (omega (arith, c .if1 .taken))
 
 slice-aggregate-begin : tie.Need-slice-aggregate-begin
 slice-aggregate-begin c = search needs
@@ -36,7 +36,7 @@ returns-3 c =
 
 returns-4 : tie.Need-returns-4
 returns-4 c =
-    λ s. no-such-drawing s (c .before .before .before .before .before .before .before .begin .ensures s .solved (not-false _ (c .before .before .if2 .left))) _ _ (c .before .before .before .before .before .before .before .before .before .before .before .if1 .left) (inr (c .if4 .taken))
+    λ s. no-such-drawing s (c .before .before .before .before .before .before .before .begin .ensures s .solved (not-false _ (c .before .before .if2 .left))) _ _ (c .before .before .before .before .before .before .before .before .before .before .before .if1 .left) (inr (omega (arith, c .if4 .taken)))
 
 slice-aggregate-find : tie.Need-slice-aggregate-find
 slice-aggregate-find c = search needs
@@ -67,7 +67,7 @@ same-length c = search needs
 
 returns-5 : tie.Need-returns-5
 returns-5 c =
-    λ s. drawn-so s (c .before .before .before .before .before .before .before .before .before .before .before .before .before .before .before .before .before .before .before .begin .ensures s .solved (not-false _ (c .before .before .before .before .before .before .before .before .before .before .before .before .before .before .if2 .left))) (c .before .before .before .before .before .before .before .find .ensures) (omega (arith, c .before .before .before .before .before .before .before .before .before .before .before .before .before .if3 .left)) (c .before .before .before .before .before .if5 .taken) _ _ _ (c .before .before .before .before .before .before .before .before .before .before .before .before .before .before .before .before .before .before .before .before .before .before .before .if1 .left) (c .before .before .before .before .before .before .before .before .before .before .before .before .if4 .left) (c .before .before .draw .ensures)
+    λ s. drawn-so s (c .before .before .before .before .before .before .before .before .before .before .before .before .before .before .before .before .before .before .before .begin .ensures s .solved (not-false _ (c .before .before .before .before .before .before .before .before .before .before .before .before .before .before .if2 .left))) (c .before .before .before .before .before .before .before .find .ensures) (omega (arith, c .before .before .before .before .before .before .before .before .before .before .before .before .before .if3 .left)) (c .before .before .before .before .before .if5 .taken) _ _ _ (c .before .before .before .before .before .before .before .before .before .before .before .before .before .before .before .before .before .before .before .before .before .before .before .if1 .left) (omega (arith, c .before .before .before .before .before .before .before .before .before .before .before .before .if4 .left)) (c .before .before .draw .ensures)
 
 returns-6 : tie.Need-returns-6
 returns-6 c =

@@ -13,7 +13,7 @@ mul-if1 c = search needs
 
 returns : tie.Need-returns
 returns c =
-    λ s. small-reading s _ _ (c .if1 .taken)
+    λ s. small-reading s _ _ (omega (arith, c .if1 .taken))
 
 slice-aggregate-begin : tie.Need-slice-aggregate-begin
 slice-aggregate-begin c = search needs
@@ -60,7 +60,7 @@ same-length-2 c = search needs
 
 returns-3 : tie.Need-returns-3
 returns-3 c =
-    λ s. read-on s (c .before .before .before .before .before .before .before .before .before .before .before .before .before .before .begin .ensures s .solved (not-false _ (c .before .before .before .before .before .before .before .before .before .if2 .left))) (c .before .before .before .find .ensures) _ refl (omega (arith, c .before .before .before .before .before .before .before .before .before .before .before .before .before .before .before .before .before .before .if1 .left)) (c .before .before .before .before .before .before .before .before .if3 .taken) (c .if4 .taken)
+    λ s. read-on s (c .before .before .before .before .before .before .before .before .before .before .before .before .before .before .begin .ensures s .solved (not-false _ (c .before .before .before .before .before .before .before .before .before .if2 .left))) (c .before .before .before .find .ensures) _ refl (omega (arith, c .before .before .before .before .before .before .before .before .before .before .before .before .before .before .before .before .before .before .if1 .left)) (omega (arith, c .before .before .before .before .before .before .before .before .if3 .taken)) (c .if4 .taken)
 
 same-length-3 : tie.Need-same-length-3
 same-length-3 c = search needs
@@ -71,7 +71,7 @@ returns-4 c =
 
 returns-5 : tie.Need-returns-5
 returns-5 c =
-    λ s. past-last s (c .before .before .before .before .before .before .begin .ensures s .solved (not-false _ (c .before .if2 .left))) _ _ (omega (arith, c .before .before .before .before .before .before .before .before .before .before .if1 .left)) (c .if3 .left)
+    λ s. past-last s (c .before .before .before .before .before .before .begin .ensures s .solved (not-false _ (c .before .if2 .left))) _ _ (omega (arith, c .before .before .before .before .before .before .before .before .before .before .if1 .left)) (omega (arith, c .if3 .left))
 
 pub reading-of-spec : {M : Type 1} → statement M
 reading-of-spec =

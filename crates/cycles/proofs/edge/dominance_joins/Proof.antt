@@ -8,23 +8,23 @@ use borrow.Author.Needs.{needs}
 use Rattle.cycles.proofs.edge.dominance_joins.Statement.{statement}
 use Rattle.cycles.proofs.edge.dominance_joins.Tie as tie
 
-dominance-edge-requires : tie.Need-dominance-edge-requires
-dominance-edge-requires c κs = search needs
+in-row-requires : tie.Need-in-row-requires
+in-row-requires c κs = search needs
 
 returns : tie.Need-returns
 unfolding dominanceJoins
-returns c = let a = c .before .before .before .before .args in sym (or-left (inRow (a .low .now) (a .high .now) (a .u) (a .v)) (inRow (a .low .now) (a .high .now) (a .v) (a .u)) (sym (c .before .dominance-edge .ensures) ∙ c .if1 .taken))
+returns c = let a = c .before .before .before .before .args in sym (or-left (inRow (a .low .now) (a .high .now) (a .u) (a .v)) (inRow (a .low .now) (a .high .now) (a .v) (a .u)) (sym (c .before .in-row .ensures) ∙ c .if1 .taken))
 
-dominance-edge-requires-2 : tie.Need-dominance-edge-requires-2
-dominance-edge-requires-2 c κs = search needs
+in-row-requires-2 : tie.Need-in-row-requires-2
+in-row-requires-2 c κs = search needs
 
 returns-2 : tie.Need-returns-2
 unfolding dominanceJoins
 returns-2 c =
     let a = c .before .before .before .before .before .args in
-    let no : inRow (a .low .now) (a .high .now) (a .u) (a .v) ≡ false = sym (c .before .before .dominance-edge .ensures) ∙ c .before .if1 .left in
-    c .dominance-edge2 .ensures ∙ rw no
+    let no : inRow (a .low .now) (a .high .now) (a .u) (a .v) ≡ false = sym (c .before .before .in-row .ensures) ∙ c .before .if1 .left in
+    c .in-row2 .ensures ∙ rw no
 
 pub dominance-joins-spec : {M : Type 1} → statement M
 dominance-joins-spec =
-    tie.close (tie.spec dominance-edge-requires returns dominance-edge-requires-2 returns-2)
+    tie.close (tie.spec in-row-requires returns in-row-requires-2 returns-2)

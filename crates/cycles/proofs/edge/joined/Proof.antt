@@ -6,12 +6,12 @@ use borrow.Author.Needs.{needs}
 use Rattle.cycles.proofs.edge.joined.Statement.{statement}
 use Rattle.cycles.proofs.edge.joined.Tie as tie
 
-tree-joins-requires : tie.Need-tree-joins-requires
-tree-joins-requires c κs = search needs
+tied-requires : tie.Need-tied-requires
+tied-requires c κs = search needs
 
 returns : tie.Need-returns
 unfolding joinedIn
-returns c = c .tree-joins .ensures ∙ rw (eq-eqb (c .before .before .before .before .before .args .kind) 2 (c .before .if1 .taken))
+returns c = c .tied .ensures ∙ rw (eq-eqb (c .before .before .before .before .before .args .kind) 2 (c .before .if1 .taken))
 
 dominance-joins-requires : tie.Need-dominance-joins-requires
 dominance-joins-requires c κs = search needs
@@ -26,4 +26,4 @@ returns-3 c = rw (ne-eqb (c .before .before .before .before .before .args .kind)
 
 pub joined-spec : {M : Type 1} → statement M
 joined-spec =
-    tie.close (tie.spec tree-joins-requires returns dominance-joins-requires returns-2 returns-3)
+    tie.close (tie.spec tied-requires returns dominance-joins-requires returns-2 returns-3)

@@ -1,5 +1,5 @@
 -- The place after i by cases: i is the last, or before it.
-use Rattle.cycles.proofs.Places.{place-within, pairs-are, next-inner, next-last}
+use Rattle.excluding.proofs.Places.{place-within, pairs-are, next-inner, next-last}
 use native.Mathlib.Omega.{arith}
 use Prim.Native.Nat.{_+_, _<_}
 use mathlib.Core.Path.{_≡_, sym, _∙_}

@@ -1,5 +1,5 @@
 -- A place has both its bytes.
-use Rattle.cycles.proofs.Places.{place-within}
+use Rattle.excluding.proofs.Places.{place-within}
 use native.Mathlib.Omega.{arith}
 use Prim.Native.Nat.{_*_}
 use borrow.Author.Needs.{needs}

@@ -9,7 +9,7 @@ use borrow.Author.Needs.{needs}
 use Rattle.finite.specs.Below.{count}
 use Rattle.nodeset.specs.Set.{mem}
 use Rattle.fork.specs.Staying.{Closed, stays}
-use Rattle.fork.proofs.Counts.{none-counted, once-more, twice-more}
+use Rattle.finite.proofs.Counting.{none-counted, once-more, twice-more}
 use Rattle.fork.proofs.choose.forked_roots.Statement.{statement}
 use Rattle.fork.proofs.choose.forked_roots.Tie as tie
 

@@ -4,7 +4,7 @@ use native.Mathlib.Omega.{arith}
 use borrow.Author.Needs.{needs}
 use Rattle.finite.specs.Below.{count}
 use Rattle.nodeset.specs.Set.{mem}
-use Rattle.fork.proofs.Members.{small-set, no-member, lowest-in}
+use Rattle.nodeset.proofs.Members.{small-set, no-member, lowest-in}
 use Rattle.fork.proofs.Tops.{TopsSo, tops-start, tops-more, tops-less, tops-end}
 use Rattle.fork.proofs.heads.tops.Statement.{statement}
 use Rattle.fork.proofs.heads.tops.Tie as tie

@@ -4,7 +4,7 @@ use native.Mathlib.Omega.{arith}
 use borrow.Author.Needs.{needs}
 use Rattle.finite.specs.Below.{count}
 use Rattle.nodeset.specs.Set.{mem}
-use Rattle.fork.proofs.Members.{small-set, no-member, lowest-in}
+use Rattle.nodeset.proofs.Members.{small-set, no-member, lowest-in}
 use Rattle.fork.proofs.Hanging.{HungSo, hang-start, hang-more, hang-less, hang-end}
 use Rattle.fork.proofs.settle.hang.Statement.{statement}
 use Rattle.fork.proofs.settle.hang.Tie as tie

@@ -1,7 +1,7 @@
 -- The way starts at the graph itself.
 use denote.Ref.{now}
 use Rattle.paths.proofs.Shape.{well-formed-shaped}
-use Rattle.placings.proofs.Shapes.{tree-of}
+use Rattle.trees.proofs.Held.{tree-of}
 use Rattle.placings.proofs.Guides.{started}
 use borrow.Author.Needs.{needs}
 use Rattle.placings.proofs.guide.reading.Statement.{statement}

@@ -26,11 +26,11 @@ empty-requires c κs = search needs
 loop-holds : tie.Need-loop-holds Inv-loop μ-loop
 loop-holds c = (omega arith, λ x. c .empty .ensures x ∙ sym (any-none 0 _ (λ k h. absurd (omega arith))), below-none _)
 
-shared-slice-read-leaf-set : tie.Need-shared-slice-read-leaf-set Inv-loop μ-loop
-shared-slice-read-leaf-set c = search needs
+shared-slice-read-of-byte : tie.Need-shared-slice-read-of-byte Inv-loop μ-loop
+shared-slice-read-of-byte c = search needs
 
-leaf-set-requires : tie.Need-leaf-set-requires Inv-loop μ-loop
-leaf-set-requires c κs = search needs
+of-byte-requires : tie.Need-of-byte-requires Inv-loop μ-loop
+of-byte-requires c κs = search needs
 
 intersection-requires : tie.Need-intersection-requires Inv-loop μ-loop
 intersection-requires c κs = search needs
@@ -45,7 +45,7 @@ returns c =
     let both = c .before .before .intersection in
     let found : any 128 (mem (both .result)) ≡ true = sym (not-not (any 128 (mem (both .result)))) ∙ ap not (sym (c .before .is-empty .ensures)) ∙ c .if1 .taken in
     sym (single-fails (a .n) (now (a .placing)) (l .v) (omega arith)
-    (sym (used-again (l .v) (now (a .placing)) (l .used) (c .before .before .before .leaf-set .result) (both .result) (l .inv .1) (c .before .before .before .leaf-set .ensures) (both .ensures)) ∙ found))
+    (sym (used-again (l .v) (now (a .placing)) (l .used) (c .before .before .before .of-byte .result) (both .result) (l .inv .1) (c .before .before .before .of-byte .ensures) (both .ensures)) ∙ found))
 
 union-requires : tie.Need-union-requires Inv-loop μ-loop
 union-requires c κs = search needs
@@ -60,7 +60,7 @@ loop-again : tie.Need-loop-again Inv-loop μ-loop
 loop-again c =
     let a = c .before .before .before .before .before .before .before .before .before .before .args in
     let l = c .before .before .before .before .before .before .before .loop in
-    let leaf = c .before .before .before .before .leaf-set in
+    let leaf = c .before .before .before .before .of-byte in
     let both = c .before .before .before .intersection in
     let none-found : any 128 (mem (both .result)) ≡ false = sym (not-not (any 128 (mem (both .result)))) ∙ ap not (sym (c .before .before .is-empty .ensures)) ∙ c .before .if1 .left in (
       omega arith,
@@ -82,8 +82,8 @@ single-spec =
     μ-loop
     empty-requires
     loop-holds
-    shared-slice-read-leaf-set
-    leaf-set-requires
+    shared-slice-read-of-byte
+    of-byte-requires
     intersection-requires
     is-empty-requires
     returns

@@ -5,9 +5,9 @@ use native.Mathlib.Omega.{arith}
 use borrow.Author.Needs.{needs}
 use Rattle.finite.specs.Below.{count}
 use Rattle.nodeset.specs.Set.{mem}
+use Rattle.nodeset.proofs.Members.{small-set, some-member, no-member, empty-set, lowest-in, one-less}
 use Rattle.rows.specs.Rows.{inRow}
 use Rattle.solvable.proofs.Rounds.{ApartSo, apart-start, not-apart, apart-last, apart-more, apart-end}
-use Rattle.solvable.proofs.Members.{small-set, some-member, no-member, empty-set, lowest-in, one-less}
 use Rattle.solvable.proofs.free.apart.Statement.{statement}
 use Rattle.solvable.proofs.free.apart.Tie as tie
 

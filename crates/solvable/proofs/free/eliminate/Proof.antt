@@ -5,10 +5,10 @@ use borrow.Author.Needs.{needs}
 use Rattle.finite.proofs.Laws.{any-found}
 use Rattle.finite.specs.Below.{count}
 use Rattle.nodeset.specs.Set.{mem}
+use Rattle.nodeset.proofs.Members.{some-member, no-member}
 use Rattle.rows.specs.Rows.{inRow}
 use Rattle.solvable.specs.Free.{Taking, none-taken}
 use Rattle.solvable.proofs.Rounds.{taking-trans}
-use Rattle.solvable.proofs.Members.{some-member, no-member}
 use Rattle.solvable.proofs.free.eliminate.Statement.{statement}
 use Rattle.solvable.proofs.free.eliminate.Tie as tie
 

@@ -4,9 +4,9 @@ use native.Mathlib.Omega.{arith}
 use borrow.Author.Needs.{needs}
 use Rattle.finite.specs.Below.{count}
 use Rattle.nodeset.specs.Set.{mem}
+use Rattle.nodeset.proofs.Members.{small-set, no-member, lowest-in}
 use Rattle.rows.specs.Rows.{inRow}
 use Rattle.solvable.proofs.Spreading.{Growing, growing-starts, growing-on, fewer-open, grown, spread-from}
-use Rattle.solvable.proofs.Members.{small-set, no-member, lowest-in}
 use Rattle.solvable.proofs.free.grow.Statement.{statement}
 use Rattle.solvable.proofs.free.grow.Tie as tie
 

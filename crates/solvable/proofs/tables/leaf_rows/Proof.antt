@@ -2,7 +2,7 @@
 use Prim.Native.Nat.{_-_, _≤_}
 use native.Mathlib.Omega.{arith}
 use borrow.Author.Needs.{needs}
-use Rattle.solvable.specs.Tables.{Long}
+use Rattle.rows.specs.Rows.{Long}
 use Rattle.solvable.proofs.Filled.{LeafSo, leaves-start, leaves-more, leaves-end}
 use Rattle.solvable.proofs.tables.leaf_rows.Statement.{statement}
 use Rattle.solvable.proofs.tables.leaf_rows.Tie as tie
@@ -26,8 +26,8 @@ only-requires c κs =
 difference-requires : tie.Need-difference-requires Inv-loop μ-loop
 difference-requires c κs = search needs
 
-root-of-requires : tie.Need-root-of-requires Inv-loop μ-loop
-root-of-requires c κs =
+own-requires : tie.Need-own-requires Inv-loop μ-loop
+own-requires c κs =
     let l = c .before .before .before .before .before in
     let s = l .before .before .before .before in
     (s .pre .0, c .before .before .before .before .loop-test .taken)
@@ -36,7 +36,7 @@ put-requires : tie.Need-put-requires Inv-loop μ-loop
 put-requires c κs =
     let l = c .before .before .before .before .before .before in
     let s = l .before .before .before .before in
-    (l .loop .inv .1, omega (arith, s .pre .0 .few, c .root-of .ensures .0))
+    (l .loop .inv .1, omega (arith, s .pre .0 .few, c .own .ensures .1))
 
 add-v : tie.Need-add-v Inv-loop μ-loop
 add-v c = search needs
@@ -54,7 +54,7 @@ loop-again c =
     let l = t .before .loop in (
       omega arith,
       p .put .ensures .long,
-      leaves-more _ _ (l .low) (l .high) _ _ (l .v) (r .root-of .result) (s .args .inner) (d .before .only .result) (d .difference .result) (s .pre .0 .few) (t .loop-test .taken) (l .inv .2) (s .pre .1) (d .before .only .ensures) (d .difference .ensures) (r .root-of .ensures .1) (p .put .ensures),
+      leaves-more _ _ (l .low) (l .high) _ _ (l .v) (r .own .result) (s .args .inner) (d .before .only .result) (d .difference .result) (s .pre .0 .few) (t .loop-test .taken) (l .inv .2) (s .pre .1) (d .before .only .ensures) (d .difference .ensures) (r .own .ensures .0) (p .put .ensures),
     )
 
 same-length : tie.Need-same-length Inv-loop μ-loop
@@ -81,7 +81,7 @@ leaf-rows-spec =
     loop-holds
     only-requires
     difference-requires
-    root-of-requires
+    own-requires
     put-requires
     add-v
     loop-less

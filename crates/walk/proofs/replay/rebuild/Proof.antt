@@ -5,8 +5,7 @@ use native.Mathlib.Omega.{arith}
 use denote.Ref.{now}
 use borrow.Author.Needs.{needs}
 use Rattle.graph.specs.Graph.{Graph, Descent}
-use Rattle.rows.specs.Rows.{Rows}
-use Rattle.descent.specs.Closing.{Long}
+use Rattle.rows.specs.Rows.{Long, Rows}
 use Rattle.walking.specs.Walk.{graphAt, Valid}
 use Rattle.walk.specs.Decisions.{decisions}
 use Rattle.walk.specs.Given.{Owned}

@@ -6,7 +6,7 @@ use native.Mathlib.Omega.{arith}
 use lib.ListN.{length}
 use borrow.Author.Needs.{needs}
 use Rattle.graph.specs.Graph.{Graph}
-use Rattle.descent.specs.Closing.{Long}
+use Rattle.rows.specs.Rows.{Long}
 use Rattle.fork.specs.Given.{Ends}
 use Rattle.walk.specs.Given.{Fits}
 use Rattle.walk.specs.States.{Enters}

@@ -9,7 +9,7 @@ use Rattle.finite.specs.Below.{any}
 use Rattle.finite.proofs.Laws.{any-ext, any-none, least-is, least-none}
 use Rattle.nodeset.specs.Set.{mem}
 use Rattle.rows.specs.Rows.{inRow}
-use Rattle.solvable.proofs.Members.{some-member, no-member}
+use Rattle.nodeset.proofs.Members.{some-member, no-member}
 use borrow.Author.Needs.{needs}
 use Rattle.witness.proofs.minimal.first_leaf.Statement.{statement}
 use Rattle.witness.proofs.minimal.first_leaf.Tie as tie
@@ -24,8 +24,8 @@ abbrev μ-loop : tie.MeasureT-loop
 loop-holds : tie.Need-loop-holds Inv-loop μ-loop
 loop-holds c = (omega arith, λ k h. absurd (omega arith))
 
-under-requires : tie.Need-under-requires Inv-loop μ-loop
-under-requires c κs =
+row-requires : tie.Need-row-requires Inv-loop μ-loop
+row-requires c κs =
     let s = c .before .before .before .before in
     (s .pre .0, omega (arith, s .pre .1))
 
@@ -36,7 +36,7 @@ returns : tie.Need-returns Inv-loop μ-loop
 returns c =
     let a = c .before .before .before .before .before .before .before .args in
     let l = c .before .before .before .before .loop in
-    let row = c .before .before .under in
+    let row = c .before .before .row in
     sym (least-is (a .n) (λ k. any 128 (inRow (now (a .low)) (now (a .high)) k)) (l .l) (omega arith)
     (sym (any-ext 128 (mem (row .result)) (inRow (now (a .low)) (now (a .high)) (l .l)) (λ k h. row .ensures k)) ∙ some-member (row .result) _ (c .before .is-empty .ensures) (c .if1 .taken))
     (l .inv .1))
@@ -51,7 +51,7 @@ loop-again : tie.Need-loop-again Inv-loop μ-loop
 loop-again c =
     let a = c .before .before .before .before .before .before .before .args in
     let l = c .before .before .before .before .loop in
-    let row = c .before .before .under in (
+    let row = c .before .before .row in (
       omega arith,
       below-more _ _ (l .inv .1)
           (any-none 128 (inRow (now (a .low)) (now (a .high)) (l .l)) (λ k h. sym (row .ensures k) ∙ no-member (row .result) _ (c .before .is-empty .ensures) (c .if1 .left) k h)),
@@ -71,7 +71,7 @@ first-leaf-spec =
     Inv-loop
     μ-loop
     loop-holds
-    under-requires
+    row-requires
     is-empty-requires
     returns
     add-l

@@ -1,5 +1,6 @@
 -- The rows are those of each graph that the tables hold.
 use Rattle.paths.proofs.Shape.{well-formed-shaped}
+use Rattle.trees.proofs.Held.{tree-of}
 use borrow.Author.Needs.{needs}
 use Rattle.witness.proofs.minimal.has_form.Statement.{statement}
 use Rattle.witness.proofs.minimal.has_form.Tie as tie
@@ -24,7 +25,7 @@ solvable-requires c κs = search needs
 
 returns : tie.Need-returns
 returns c = λ g edges t.
-    c .solvable .ensures g (well-formed-shaped (t .well-formed)) (record { nodes = t .nodes; parent-is = t .holds .parent-is }) (c .before .before .before .before .before .graph-rows .ensures g edges t)
+    c .solvable .ensures g (well-formed-shaped (t .well-formed)) (tree-of t) (c .before .before .before .before .before .graph-rows .ensures g edges t)
 
 pub has-form-spec : {M : Type 1} → statement M
 has-form-spec =

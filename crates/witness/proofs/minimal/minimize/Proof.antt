@@ -3,7 +3,7 @@ use Prim.Native.Nat.{_-_, _≤_}
 use mathlib.Core.Path.{_≡_, _∙_, sym}
 use native.Mathlib.Omega.{arith}
 use denote.Ref.{now}
-use Rattle.descent.specs.Closing.{Long}
+use Rattle.rows.specs.Rows.{Long}
 use Rattle.witness.specs.Thinning.{Unsolved, Thinned, before}
 use Rattle.witness.proofs.Thins.{thinned-start}
 use Rattle.witness.proofs.minimal.minimize.Statement.{statement}

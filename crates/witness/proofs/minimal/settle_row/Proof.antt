@@ -7,8 +7,8 @@ use denote.Ref.{now}
 use Rattle.finite.specs.Below.{count}
 use Rattle.nodeset.specs.Set.{mem}
 use Rattle.graph.specs.Graph.{Graph}
-use Rattle.descent.specs.Closing.{Long}
-use Rattle.solvable.proofs.Members.{no-member, lowest-in, one-less}
+use Rattle.rows.specs.Rows.{Long}
+use Rattle.nodeset.proofs.Members.{no-member, lowest-in, one-less}
 use Rattle.witness.specs.Thinning.{Thinned, before}
 use Rattle.witness.proofs.Thins.{rowSettled, row-start, row-more, row-end}
 use borrow.Author.Needs.{needs}
@@ -25,14 +25,14 @@ abbrev μ-loop : tie.MeasureT-loop
 is-left : (c : tie.After-lowest Inv-loop μ-loop) → (c .lowest .result < 128) × (mem (c .before .before .before .loop .left) (c .lowest .result) ≡ true)
 is-left c = lowest-in (c .before .before .before .loop .left) _ (c .lowest .result) (c .before .before .is-empty .ensures) (c .before .if1 .taken) (c .lowest .ensures)
 
-under-requires : tie.Need-under-requires Inv-loop μ-loop
-under-requires c κs = search needs
+row-requires : tie.Need-row-requires Inv-loop μ-loop
+row-requires c κs = search needs
 
 loop-holds : tie.Need-loop-holds Inv-loop μ-loop
 loop-holds c =
     let s = c .before .before .before .before .before .before in
     let a = s .args in
-    (s .pre .1, λ g t. row-start g (a .n) (now (a .parent)) (now (a .low)) (now (a .high)) (a .l) (c .under .result) (c .under .ensures) t)
+    (s .pre .1, λ g t. row-start g (a .n) (now (a .parent)) (now (a .low)) (now (a .high)) (a .l) (c .row .result) (c .row .ensures) t)
 
 is-empty-requires : tie.Need-is-empty-requires Inv-loop μ-loop
 is-empty-requires c κs = search needs
@@ -83,7 +83,7 @@ settle-row-spec =
     (tie.spec
     Inv-loop
     μ-loop
-    under-requires
+    row-requires
     loop-holds
     is-empty-requires
     lowest-requires

@@ -5,8 +5,8 @@ use borrow.Author.Needs.{needs}
 use Rattle.witness.proofs.minimal.take_out.Statement.{statement}
 use Rattle.witness.proofs.minimal.take_out.Tie as tie
 
-under-requires : tie.Need-under-requires
-under-requires c κs = search needs
+row-requires : tie.Need-row-requires
+row-requires c κs = search needs
 
 without-requires : tie.Need-without-requires
 without-requires c κs = search needs
@@ -33,13 +33,13 @@ returns : tie.Need-returns
 returns c =
     let s = c .before .before .before .before .before .before in
     let a = s .args in
-    row-out (now (a .low)) (now (a .high)) (a .l) (a .r) (c .before .under .result) (c .without .result) (s .pre .0 .0) (s .pre .0 .1) (s .pre .1) (c .before .under .ensures) (c .without .ensures)
+    row-out (now (a .low)) (now (a .high)) (a .l) (a .r) (c .before .row .result) (c .without .result) (s .pre .0 .0) (s .pre .0 .1) (s .pre .1) (c .before .row .ensures) (c .without .ensures)
 
 pub take-out-spec : {M : Type 1} → statement M
 take-out-spec =
     tie.close
     (tie.spec
-    under-requires
+    row-requires
     without-requires
     mul-low
     slice-write-low
