@@ -2,24 +2,22 @@
 // sheets besides, each against the second solver. A mismatch is an answer that is not what the documents and the second solver say.
 mod answers;
 mod documents;
-mod generate;
 mod refused;
 mod solved;
 mod trial;
-mod write;
 
 use answers::fails;
 use answers::plus;
 use documents::cases;
 use documents::chains;
-use generate::generate;
 use libc::STDOUT_FILENO;
 use refused::damaged;
+use second::generate::generate;
+use second::write::SHEET;
+use second::write::edges_of;
+use second::write::nodes_of;
+use second::write::part;
 use trial::trial;
-use write::SHEET;
-use write::edges_of;
-use write::nodes_of;
-use write::part;
 
 const SHEETS: usize = 380;
 
