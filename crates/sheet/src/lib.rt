@@ -2,6 +2,7 @@
 pub mod command;
 pub mod judge;
 pub mod read;
+pub mod reader;
 mod run;
 mod turn;
 

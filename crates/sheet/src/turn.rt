@@ -1,7 +1,7 @@
 // One command taken: its edge goes into the tables, or its refusal comes out.
 use crate::NONE;
 use crate::command::Step;
-use crate::command::decode;
+use crate::reader::command;
 use graph::Refusal;
 use nodeset::NodeSet;
 ghost use mathlib.Core.Path.{_≡_};
@@ -88,7 +88,7 @@ pub fn take(
         ⌝ }
     ensures { λ x. ⌜ Advanced x at (length (now (sheet .entry))) ⌝ }
 {
-    match decode(sheet, at) {
+    match command(sheet, at) {
         Step::Tree(p, c) => tree_edge(n, p, c, edges, parent),
         Step::Dominance(l, r) => dominance_edge(n, l, r, edges, low, high),
         Step::End => Turn::Ended,

@@ -9,12 +9,12 @@ use Rattle.sheet.proofs.turn.take.Statement.{statement}
 use Rattle.sheet.proofs.turn.take.Tie as tie
 use Rattle.sheet.proofs.turn.take.Reads as reads
 use Rattle.sheet.proofs.turn.take.Lts as lts
-use Rattle.sheet.proofs.command.decode.Reads as decode-reads
+use Rattle.sheet.proofs.reader.command.Reads as command-reads
 use Rattle.sheet.proofs.turn.dominance_edge.Reads as dominance-edge-reads
 use Rattle.sheet.proofs.turn.tree_edge.Reads as tree-edge-reads
 
-decode-requires : tie.Need-decode-requires
-decode-requires c κs = search needs
+command-requires : tie.Need-command-requires
+command-requires c κs = search needs
 
 enum-known-p : tie.Need-enum-known-p
 enum-known-p c = search needs
@@ -41,7 +41,7 @@ returns : tie.Need-returns
 returns c =
     let s = c .before .before .before .before .before in
     let a = s .before .before .before .before .before .before .before .args in
-    let step = sym (s .before .before .decode .ensures) ∙ s .p .given .1 in
+    let step = sym (s .before .before .command .ensures) ∙ s .p .given .1 in
     let edge = c .before .before .tree-edge in (
       (λ t d h.
           tree-turn (a .n) t d (drop (a .at) (now (a .sheet))) (now (a .parent)) (now (a .low)) (now (a .high)) (a .edges) (omega arith) h
@@ -59,7 +59,7 @@ returns-2 : tie.Need-returns-2
 returns-2 c =
     let s = c .before .before .before .before .before .before .before .before in
     let a = s .before .before .before .before .before .before .before .args in
-    let step = sym (s .before .before .decode .ensures) ∙ s .l .given .1 in
+    let step = sym (s .before .before .command .ensures) ∙ s .l .given .1 in
     let edge = c .before .before .before .before .dominance-edge in (
       (λ t d h.
           dominance-turn (a .n) t d (drop (a .at) (now (a .sheet))) (now (a .parent)) (now (a .low)) (now (a .high)) (a .edges) (omega arith) h
@@ -73,7 +73,7 @@ returns-3 c =
     let a = s .before .before .before .before .before .args in (
       (λ t d h.
           end-turn (a .n) t d (drop (a .at) (now (a .sheet))) (now (a .parent)) (now (a .low)) (now (a .high)) (a .edges) (omega arith) h
-          (sym (s .decode .ensures) ∙ c .enum-told .given .1)),
+          (sym (s .command .ensures) ∙ c .enum-told .given .1)),
       tt,
     )
 
@@ -83,7 +83,7 @@ returns-4 c =
     let a = s .before .before .before .before .before .before .before .args in (
       (λ t d h.
           refused-turn (a .n) t d (drop (a .at) (now (a .sheet))) (now (a .parent)) (now (a .low)) (now (a .high)) (a .edges) (omega arith) h
-          (s .why .given .0 .0) (sym (s .before .before .decode .ensures) ∙ s .why .given .1)),
+          (s .why .given .0 .0) (sym (s .before .before .command .ensures) ∙ s .why .given .1)),
       tt,
     )
 
@@ -91,7 +91,7 @@ pub take-spec : {M : Type 1} → statement M
 take-spec =
     tie.close
     (tie.spec
-    decode-requires
+    command-requires
     enum-known-p
     tree-edge-requires
     enum-known-l
