@@ -1,14 +1,12 @@
 // A second solver, to test the first against. It goes by free fragments from the top down: a connected set of fragments has a
-// free fragment on top, and each component of the rest hangs under the one leaf that leads into it. And sheets to test on.
+// free fragment on top, and each component of the rest hangs under the one leaf that leads into it.
 mod agenda;
 mod build;
 mod free;
-pub mod generate;
 mod set;
 pub mod table;
 mod ways;
 mod words;
-pub mod write;
 
 use agenda::complete;
 use agenda::fill;

@@ -7,19 +7,19 @@ use crate::answers::length;
 use crate::answers::plus;
 use crate::refused::malformed;
 use crate::trial::trial;
+use crate::write::DOMINANCE;
+use crate::write::SHEET;
+use crate::write::TREE;
+use crate::write::begin;
+use crate::write::edge;
+use crate::write::end;
+use crate::write::nodes_of;
+use crate::write::part;
 use counter::Place;
 use counter::configuration;
 use counter::drawing;
 use libc::STDOUT_FILENO;
 use second::table::byte;
-use second::write::DOMINANCE;
-use second::write::SHEET;
-use second::write::TREE;
-use second::write::begin;
-use second::write::edge;
-use second::write::end;
-use second::write::nodes_of;
-use second::write::part;
 
 fn text(words: &[u8]) {
     io::write_all(STDOUT_FILENO, words);

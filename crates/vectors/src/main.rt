@@ -1,10 +1,11 @@
-// Runs the cases of document 01 and the chains of Section 9 of document 000 through the public calls, and hundreds of generated
-// sheets besides, each against the second solver. A mismatch is an answer that is not what the documents and the second solver say.
+// Runs the cases of document 01 and the chains of Section 9 of document 000 through the public calls, and the sheets of the
+// input besides, each against the second solver. A mismatch is an answer that is not what the documents and the second solver say.
 mod answers;
 mod documents;
 mod refused;
 mod solved;
 mod trial;
+mod write;
 
 use answers::fails;
 use answers::plus;
@@ -12,18 +13,17 @@ use documents::cases;
 use documents::chains;
 use libc::STDOUT_FILENO;
 use refused::damaged;
-use second::generate::generate;
-use second::write::SHEET;
-use second::write::edges_of;
-use second::write::nodes_of;
-use second::write::part;
+use second::table::byte;
+use second::table::put;
 use trial::trial;
-
-const SHEETS: usize = 380;
-
-const SEED: u64 = 20010419;
+use write::SHEET;
+use write::edges_of;
+use write::nodes_of;
+use write::part;
+ghost use Prim.Native.Nat.{_<_};
 
 struct Sums {
+    sheets: usize,
     refused: usize,
     nodes: usize,
     edges: usize,
@@ -31,14 +31,22 @@ struct Sums {
     wrong: usize,
 }
 
-fn one_sheet(seed: &mut u64, number: usize, sums: Sums) -> Sums {
+fn copy(bytes: &[u8], sheet: &mut [u8]) {
+    for i in 0..bytes.len() {
+        put(sheet, i, byte(bytes, i));
+    }
+}
+
+fn one_sheet(bytes: &[u8], sums: Sums) -> Sums {
+    let length = bytes.len();
     let mut sheet = [0u8; SHEET];
-    let length = generate(seed, number, &mut sheet);
+    copy(bytes, &mut sheet);
     let nodes = nodes_of(&sheet);
     let edges = edges_of(&sheet);
     let found = trial(part(&sheet, length));
     let wrong = plus(found.wrong, damaged(&mut sheet, length));
     Sums {
+        sheets: plus(sums.sheets, 1),
         refused: plus(sums.refused, fails(found.readings != 0)),
         nodes: plus(sums.nodes, nodes),
         edges: plus(sums.edges, edges),
@@ -47,19 +55,40 @@ fn one_sheet(seed: &mut u64, number: usize, sums: Sums) -> Sums {
     }
 }
 
-fn all_sheets() -> Sums {
-    let mut seed = SEED;
+fn wide(byte: u8) -> usize
+    ensures { λ r. ⌜ r < 256 ⌝ }
+{
+    byte as usize
+}
+
+// A sheet comes with its length, two bytes, before it.
+fn all_sheets(input: &[u8]) -> Sums {
     let mut sums = Sums {
+        sheets: 0,
         refused: 0,
         nodes: 0,
         edges: 0,
         readings: 0,
         wrong: 0,
     };
-    for number in 0..SHEETS {
-        sums = one_sheet(&mut seed, number, sums);
+    let mut at = 0;
+    while 2 <= input.len() - at {
+        let length = wide(input[at]) * 256 + wide(input[at + 1]);
+        let start = at + 2;
+        if input.len() - start < length {
+            return sums;
+        }
+        let end = start + length;
+        sums = one_sheet(&input[start..end], sums);
+        at = end;
     }
     sums
+}
+
+fn input_sheets() -> Sums {
+    let mut input = io::large_buffer();
+    let got = io::read_full(0, &mut input);
+    all_sheets(&input[..got])
 }
 
 fn tell(label: &[u8], number: usize) {
@@ -70,8 +99,8 @@ fn tell(label: &[u8], number: usize) {
 fn main() {
     let wrong = plus(cases(), chains());
     tell(b"documents: mismatches ", wrong);
-    let sums = all_sheets();
-    tell(b"\ngenerated: sheets ", SHEETS);
+    let sums = input_sheets();
+    tell(b"\ngenerated: sheets ", sums.sheets);
     tell(b", refused ", sums.refused);
     tell(b", nodes ", sums.nodes);
     tell(b", dominance edges ", sums.edges);

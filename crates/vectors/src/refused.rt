@@ -11,6 +11,9 @@ use crate::answers::pairs;
 use crate::answers::placed;
 use crate::answers::plus;
 use crate::answers::untouched;
+use crate::write::SHEET;
+use crate::write::nodes_of;
+use crate::write::part;
 use counter::Counted;
 use counter::CycleChecked;
 use counter::Place;
@@ -23,9 +26,6 @@ use counter::drawing;
 use counter::fragment_table;
 use fragments::Table;
 use second::table::put;
-use second::write::SHEET;
-use second::write::nodes_of;
-use second::write::part;
 use tidy::Tidied;
 
 fn counted(sheet: &[u8]) -> u8 {

@@ -1,25 +1,66 @@
-use Prim.Native.Nat.{_-_}
+use Prim.Native.Nat.{_-_, _≤_}
+use native.Mathlib.Omega.{arith}
+use lib.ListN.{length}
 use borrow.Author.Needs.{needs}
 use Rattle.vectors.proofs.all_sheets.Statement.{statement}
 use Rattle.vectors.proofs.all_sheets.Tie as tie
-use Rattle.vectors.proofs.all_sheets.Reads as reads
-use Rattle.vectors.proofs.all_sheets.Lts as lts
-use Rattle.vectors.proofs.one_sheet.Reads as one-sheet-reads
 
 abbrev Inv-loop : tie.InvT-loop
-Inv-loop seed₀ sums₀ number₀ seed sums number = Unit {0}
+Inv-loop input sums₀ at₀ sums at = at ≤ length input
 
 abbrev μ-loop : tie.MeasureT-loop
-μ-loop seed₀ sums₀ number₀ seed sums number = 380 - number
+μ-loop input sums₀ at₀ sums at = length input - at
 
 loop-holds : tie.Need-loop-holds Inv-loop μ-loop
 loop-holds c = search needs
 
+sub-loop : tie.Need-sub-loop Inv-loop μ-loop
+sub-loop c = search needs
+
+shared-slice-read-wide : tie.Need-shared-slice-read-wide Inv-loop μ-loop
+shared-slice-read-wide c = search needs
+
+wide-requires : tie.Need-wide-requires Inv-loop μ-loop
+wide-requires c κs = search needs
+
+mul-length : tie.Need-mul-length Inv-loop μ-loop
+mul-length c = search needs
+
+add-wide : tie.Need-add-wide Inv-loop μ-loop
+add-wide c = search needs
+
+shared-slice-read-wide-2 : tie.Need-shared-slice-read-wide-2 Inv-loop μ-loop
+shared-slice-read-wide-2 c = search needs
+
+wide-requires-2 : tie.Need-wide-requires-2 Inv-loop μ-loop
+wide-requires-2 c κs = search needs
+
+add-length : tie.Need-add-length Inv-loop μ-loop
+add-length c = search needs
+
+add-start : tie.Need-add-start Inv-loop μ-loop
+add-start c = search needs
+
+sub-if1 : tie.Need-sub-if1 Inv-loop μ-loop
+sub-if1 c = search needs
+
+returns : tie.Need-returns Inv-loop μ-loop
+returns c = search needs
+
+add-end : tie.Need-add-end Inv-loop μ-loop
+add-end c = search needs
+
+sub-one-sheet : tie.Need-sub-one-sheet Inv-loop μ-loop
+sub-one-sheet c = search needs
+
+part-one-sheet-start : tie.Need-part-one-sheet-start Inv-loop μ-loop
+part-one-sheet-start c = search needs
+
+part-one-sheet-end : tie.Need-part-one-sheet-end Inv-loop μ-loop
+part-one-sheet-end c = search needs
+
 one-sheet-requires : tie.Need-one-sheet-requires Inv-loop μ-loop
 one-sheet-requires c κs = search needs
-
-add-number : tie.Need-add-number Inv-loop μ-loop
-add-number c = search needs
 
 loop-less : tie.Need-loop-less Inv-loop μ-loop
 loop-less c = search needs
@@ -27,8 +68,8 @@ loop-less c = search needs
 loop-again : tie.Need-loop-again Inv-loop μ-loop
 loop-again c = search needs
 
-returns : tie.Need-returns Inv-loop μ-loop
-returns c = search needs
+returns-2 : tie.Need-returns-2 Inv-loop μ-loop
+returns-2 c = search needs
 
 pub all-sheets-spec : {M : Type 1} → statement M
 all-sheets-spec =
@@ -37,8 +78,22 @@ all-sheets-spec =
     Inv-loop
     μ-loop
     loop-holds
+    sub-loop
+    shared-slice-read-wide
+    wide-requires
+    mul-length
+    add-wide
+    shared-slice-read-wide-2
+    wide-requires-2
+    add-length
+    add-start
+    sub-if1
+    returns
+    add-end
+    sub-one-sheet
+    part-one-sheet-start
+    part-one-sheet-end
     one-sheet-requires
-    add-number
     loop-less
     loop-again
-    returns)
+    returns-2)

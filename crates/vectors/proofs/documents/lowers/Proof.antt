@@ -6,7 +6,7 @@ use Rattle.vectors.proofs.documents.lowers.Statement.{statement}
 use Rattle.vectors.proofs.documents.lowers.Tie as tie
 use Rattle.vectors.proofs.documents.lowers.Reads as reads
 use Rattle.vectors.proofs.documents.lowers.Lts as lts
-use Rattle.second.proofs.write.edge.Reads as edge-reads
+use Rattle.vectors.proofs.write.edge.Reads as edge-reads
 
 abbrev Inv-loop : tie.InvT-loop
 Inv-loop sheet₀ start k at₀ i₀ i-end sheet at i = (i-end ≡ k + 1) × (i ≤ i-end) × (length sheet ≡ length sheet₀)

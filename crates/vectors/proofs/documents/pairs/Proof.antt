@@ -6,7 +6,7 @@ use Rattle.vectors.proofs.documents.pairs.Statement.{statement}
 use Rattle.vectors.proofs.documents.pairs.Tie as tie
 use Rattle.vectors.proofs.documents.pairs.Reads as reads
 use Rattle.vectors.proofs.documents.pairs.Lts as lts
-use Rattle.second.proofs.write.edge.Reads as edge-reads
+use Rattle.vectors.proofs.write.edge.Reads as edge-reads
 
 abbrev Inv-loop : tie.InvT-loop
 Inv-loop sheet₀ start at₀ fragment₀ sheet at fragment = (fragment ≤ 24) × (length sheet ≡ length sheet₀)

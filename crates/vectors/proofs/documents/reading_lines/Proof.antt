@@ -9,7 +9,7 @@ use Rattle.counter.proofs.Place.start.Reads as start-reads
 use Rattle.vectors.proofs.answers.plus.Reads as plus-reads
 use Rattle.vectors.proofs.documents.decimal.Reads as decimal-reads
 use Rattle.vectors.proofs.documents.placing_line.Reads as placing-line-reads
-use Rattle.second.proofs.write.nodes_of.Reads as nodes-of-reads
+use Rattle.vectors.proofs.write.nodes_of.Reads as nodes-of-reads
 
 abbrev Inv-loop : tie.InvT-loop
 Inv-loop sheet readings place₀ number₀ place number = Unit {0}

@@ -7,7 +7,7 @@ use Rattle.vectors.proofs.documents.rung.Tie as tie
 use Rattle.vectors.proofs.documents.rung.Reads as reads
 use Rattle.vectors.proofs.documents.rung.Lts as lts
 use Rattle.vectors.proofs.answers.plus.Reads as plus-reads
-use Rattle.second.proofs.write.edge.Reads as edge-reads
+use Rattle.vectors.proofs.write.edge.Reads as edge-reads
 
 abbrev Inv-loop : tie.InvT-loop
 Inv-loop sheet₀ start gap at₀ upper₀ sheet at upper = (upper ≤ 24) × (length sheet ≡ length sheet₀)

@@ -1,6 +1,6 @@
 // Sheets in memory, written command by command and taken apart again.
-use crate::table::byte;
-use crate::table::put;
+use second::table::byte;
+use second::table::put;
 
 // The longest sheet is shorter: 126 tree edges at most, 255 dominance edges.
 pub const SHEET: usize = 1200;
@@ -44,19 +44,6 @@ pub fn part(table: &[u8], length: usize) -> &[u8] {
     } else {
         table
     }
-}
-
-// A tree edge to each node that has a parent.
-pub fn trees(sheet: &mut [u8], start: usize, parent: &[u8], n: usize) -> usize {
-    let mut at = start;
-    for v in 0..n {
-        let above = byte(parent, v);
-        if above == 255 {
-            continue;
-        }
-        at = edge(sheet, at, TREE, above, v);
-    }
-    at
 }
 
 pub fn nodes_of(sheet: &[u8]) -> usize {

@@ -1,10 +1,10 @@
 use Prim.Native.Nat.{_-_}
 use borrow.Author.Needs.{needs}
-use Rattle.second.proofs.write.edges_of.Statement.{statement}
-use Rattle.second.proofs.write.edges_of.Tie as tie
-use Rattle.second.proofs.write.edges_of.Reads as reads
-use Rattle.second.proofs.write.edges_of.Lts as lts
+use Rattle.vectors.proofs.write.edges_of.Statement.{statement}
+use Rattle.vectors.proofs.write.edges_of.Tie as tie
+use Rattle.vectors.proofs.write.edges_of.Reads as reads
+use Rattle.vectors.proofs.write.edges_of.Lts as lts
 use Rattle.second.proofs.table.byte.Reads as byte-reads
 use Rattle.std.proofs.num.wrapping_add_usize.Reads as wrapping-add-usize-reads
 
 abbrev Inv-loop : tie.InvT-loop
