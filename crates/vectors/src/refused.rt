@@ -11,12 +11,11 @@ use crate::answers::pairs;
 use crate::answers::placed;
 use crate::answers::plus;
 use crate::answers::untouched;
-use crate::write::SHEET;
-use crate::write::nodes_of;
-use crate::write::part;
+use crate::unpack::part;
 use counter::Counted;
 use counter::CycleChecked;
 use counter::Place;
+use counter::Placed;
 use counter::PlacingChecked;
 use counter::check_cycle;
 use counter::check_placing;
@@ -25,7 +24,6 @@ use counter::count;
 use counter::drawing;
 use counter::fragment_table;
 use fragments::Table;
-use second::table::put;
 use tidy::Tidied;
 
 fn counted(sheet: &[u8]) -> u8 {
@@ -63,45 +61,40 @@ fn tabled(sheet: &[u8], out: &mut [u8]) -> u8 {
     }
 }
 
+// The calls that are lent nothing to write into.
+fn unread(sheet: &[u8], number: u8) -> usize {
+    let mut wrong = fails(counted(sheet) == number);
+    wrong = plus(wrong, fails(checked_cycle(sheet) == number));
+    plus(wrong, fails(checked_placing(sheet) == number))
+}
+
+// Refused with the number, and the place is still the start.
+fn unmoved(answer: Placed, place: Place, number: u8) -> usize {
+    let wrong = fails(placed(answer) == number);
+    plus(wrong, fails(place.number == 0))
+}
+
+fn unplaced(sheet: &[u8], number: u8, out: &mut [u8]) -> usize {
+    let next = Place::start().next(sheet, out);
+    let place = next.place;
+    let answer = next.answer;
+    let wrong = unmoved(answer, place, number);
+    plus(wrong, fails(placed(configuration(sheet, out)) == number))
+}
+
+fn unwritten(sheet: &[u8], number: u8, out: &mut [u8]) -> usize {
+    let mut wrong = fails(drawn(drawing(sheet, 1, out)) == number);
+    wrong = plus(wrong, fails(tidied(sheet, out) == number));
+    plus(wrong, fails(tabled(sheet, out) == number))
+}
+
 // A sheet that is not well-formed gets its number from every call, and no lent byte is written.
 pub fn malformed(sheet: &[u8], number: u8) -> usize {
     let mut out = [MARK; 4];
-    let next = Place::start().next(sheet, &mut out);
-    let place = next.place;
-    let answer = next.answer;
-    let mut wrong = fails(placed(answer) == number);
-    wrong = plus(wrong, fails(place.number == 0));
-    wrong = plus(
-        wrong,
-        fails(placed(configuration(sheet, &mut out)) == number),
-    );
-    wrong = plus(wrong, fails(drawn(drawing(sheet, 1, &mut out)) == number));
-    wrong = plus(wrong, fails(tidied(sheet, &mut out) == number));
-    wrong = plus(wrong, fails(tabled(sheet, &mut out) == number));
-    wrong = plus(wrong, fails(counted(sheet) == number));
-    wrong = plus(wrong, fails(checked_cycle(sheet) == number));
-    wrong = plus(wrong, fails(checked_placing(sheet) == number));
+    let mut wrong = unread(sheet, number);
+    wrong = plus(wrong, unplaced(sheet, number, &mut out));
+    wrong = plus(wrong, unwritten(sheet, number, &mut out));
     plus(wrong, fails(untouched(&out, 0)))
-}
-
-// A well-formed sheet, damaged: its end cut off, a byte after the end, an unknown command, a node too many.
-pub fn damaged(sheet: &mut [u8], length: usize) -> usize {
-    if length == 0 {
-        return 1;
-    }
-    if SHEET <= length {
-        return 1;
-    }
-    let n = nodes_of(sheet);
-    let mut wrong = malformed(part(sheet, length - 1), 1);
-    put(sheet, length, 0);
-    wrong = plus(wrong, malformed(part(sheet, length + 1), 2));
-    put(sheet, length - 1, 9);
-    wrong = plus(wrong, malformed(part(sheet, length), 2));
-    put(sheet, length - 1, 0);
-    put(sheet, 1, n % 128 + 1);
-    let bare = if n < 128 { 5 } else { 3 };
-    plus(wrong, malformed(part(sheet, length), bare))
 }
 
 // Of a well-formed sheet: a buffer one byte short is refused, whatever the sheet, and stays as it is.
@@ -114,8 +107,7 @@ pub fn short_buffers(sheet: &[u8], n: usize) -> usize {
     let next = next_in(sheet, Place::start(), &mut out, bytes - 1);
     let place = next.place;
     let answer = next.answer;
-    let mut wrong = fails(placed(answer) == 10);
-    wrong = plus(wrong, fails(place.number == 0));
+    let mut wrong = unmoved(answer, place, 10);
     let answer = configuration_in(sheet, &mut out, bytes - 1);
     wrong = plus(wrong, fails(placed(answer) == 10));
     let answer = drawing_in(sheet, &mut out, 1023);
@@ -141,8 +133,7 @@ fn no_next(sheet: &[u8], n: usize) -> usize {
     let next = next_in(sheet, Place::start(), &mut out, lent(n));
     let place = next.place;
     let answer = next.answer;
-    let mut wrong = fails(placed(answer) == 9);
-    wrong = plus(wrong, fails(place.number == 0));
+    let wrong = unmoved(answer, place, 9);
     plus(wrong, fails(cycle_written(sheet, &out, pairs(answer))))
 }
 

@@ -9,8 +9,8 @@ use crate::solved::drawings;
 use crate::solved::same_count;
 use crate::solved::same_list;
 use crate::solved::same_verdict;
-use crate::write::nodes_of;
-use crate::write::unpack;
+use crate::unpack::nodes_of;
+use crate::unpack::unpack;
 
 // The bytes that a list may take, and the readings: each of them costs a walk from the start.
 const TABLE: usize = 65536;

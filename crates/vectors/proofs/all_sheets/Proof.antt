@@ -1,66 +1,55 @@
 use Prim.Native.Nat.{_-_, _≤_}
-use native.Mathlib.Omega.{arith}
-use lib.ListN.{length}
 use borrow.Author.Needs.{needs}
 use Rattle.vectors.proofs.all_sheets.Statement.{statement}
 use Rattle.vectors.proofs.all_sheets.Tie as tie
 
 abbrev Inv-loop : tie.InvT-loop
-Inv-loop input sums₀ at₀ sums at = at ≤ length input
+Inv-loop input sums₀ at₀ sheet₀ sheet-end sums at sheet = sheet ≤ sheet-end
 
 abbrev μ-loop : tie.MeasureT-loop
-μ-loop input sums₀ at₀ sums at = length input - at
+μ-loop input sums₀ at₀ sheet₀ sheet-end sums at sheet = sheet-end - sheet
 
 loop-holds : tie.Need-loop-holds Inv-loop μ-loop
 loop-holds c = search needs
 
-sub-loop : tie.Need-sub-loop Inv-loop μ-loop
-sub-loop c = search needs
-
-shared-slice-read-wide : tie.Need-shared-slice-read-wide Inv-loop μ-loop
-shared-slice-read-wide c = search needs
-
-wide-requires : tie.Need-wide-requires Inv-loop μ-loop
-wide-requires c κs = search needs
-
-mul-length : tie.Need-mul-length Inv-loop μ-loop
-mul-length c = search needs
-
-add-wide : tie.Need-add-wide Inv-loop μ-loop
-add-wide c = search needs
-
-shared-slice-read-wide-2 : tie.Need-shared-slice-read-wide-2 Inv-loop μ-loop
-shared-slice-read-wide-2 c = search needs
-
-wide-requires-2 : tie.Need-wide-requires-2 Inv-loop μ-loop
-wide-requires-2 c κs = search needs
-
-add-length : tie.Need-add-length Inv-loop μ-loop
-add-length c = search needs
-
-add-start : tie.Need-add-start Inv-loop μ-loop
-add-start c = search needs
-
-sub-if1 : tie.Need-sub-if1 Inv-loop μ-loop
-sub-if1 c = search needs
-
 returns : tie.Need-returns Inv-loop μ-loop
 returns c = search needs
 
-add-end : tie.Need-add-end Inv-loop μ-loop
-add-end c = search needs
+end-of-requires : tie.Need-end-of-requires Inv-loop μ-loop
+end-of-requires c κs = search needs
 
-sub-one-sheet : tie.Need-sub-one-sheet Inv-loop μ-loop
-sub-one-sheet c = search needs
+end-of-requires-2 : tie.Need-end-of-requires-2 Inv-loop μ-loop
+end-of-requires-2 c κs = search needs
 
-part-one-sheet-start : tie.Need-part-one-sheet-start Inv-loop μ-loop
-part-one-sheet-start c = search needs
+end-of-requires-3 : tie.Need-end-of-requires-3 Inv-loop μ-loop
+end-of-requires-3 c κs = search needs
 
-part-one-sheet-end : tie.Need-part-one-sheet-end Inv-loop μ-loop
-part-one-sheet-end c = search needs
+field-requires : tie.Need-field-requires Inv-loop μ-loop
+field-requires c κs = search needs
+
+byte-requires : tie.Need-byte-requires Inv-loop μ-loop
+byte-requires c κs = search needs
+
+cast-number : tie.Need-cast-number Inv-loop μ-loop
+cast-number c = search needs
+
+field-requires-2 : tie.Need-field-requires-2 Inv-loop μ-loop
+field-requires-2 c κs = search needs
+
+field-requires-3 : tie.Need-field-requires-3 Inv-loop μ-loop
+field-requires-3 c κs = search needs
+
+field-requires-4 : tie.Need-field-requires-4 Inv-loop μ-loop
+field-requires-4 c κs = search needs
 
 one-sheet-requires : tie.Need-one-sheet-requires Inv-loop μ-loop
 one-sheet-requires c κs = search needs
+
+end-of-requires-4 : tie.Need-end-of-requires-4 Inv-loop μ-loop
+end-of-requires-4 c κs = search needs
+
+add--sheet : tie.Need-add--sheet Inv-loop μ-loop
+add--sheet c = search needs
 
 loop-less : tie.Need-loop-less Inv-loop μ-loop
 loop-less c = search needs
@@ -78,22 +67,19 @@ all-sheets-spec =
     Inv-loop
     μ-loop
     loop-holds
-    sub-loop
-    shared-slice-read-wide
-    wide-requires
-    mul-length
-    add-wide
-    shared-slice-read-wide-2
-    wide-requires-2
-    add-length
-    add-start
-    sub-if1
     returns
-    add-end
-    sub-one-sheet
-    part-one-sheet-start
-    part-one-sheet-end
+    end-of-requires
+    end-of-requires-2
+    end-of-requires-3
+    field-requires
+    byte-requires
+    cast-number
+    field-requires-2
+    field-requires-3
+    field-requires-4
     one-sheet-requires
+    end-of-requires-4
+    add--sheet
     loop-less
     loop-again
     returns-2)

@@ -2,12 +2,12 @@ use Prim.Native.Nat.{_-_}
 use mathlib.Core.Path.{_≡_}
 use lib.ListN.{length}
 use borrow.Author.Needs.{needs}
-use Rattle.vectors.proofs.write.unpack.Statement.{statement}
-use Rattle.vectors.proofs.write.unpack.Tie as tie
-use Rattle.vectors.proofs.write.unpack.Reads as reads
-use Rattle.vectors.proofs.write.unpack.Lts as lts
+use Rattle.vectors.proofs.unpack.unpack.Statement.{statement}
+use Rattle.vectors.proofs.unpack.unpack.Tie as tie
+use Rattle.vectors.proofs.unpack.unpack.Reads as reads
+use Rattle.vectors.proofs.unpack.unpack.Lts as lts
 use Rattle.second.proofs.table.byte.Reads as byte-reads
-use Rattle.vectors.proofs.write.keep.Reads as keep-reads
+use Rattle.vectors.proofs.unpack.keep.Reads as keep-reads
 
 abbrev Inv-loop : tie.InvT-loop
 Inv-loop sheet parent₀ leaves₀ roots₀ number₀ at₀ parent leaves roots number at = (length parent ≡ length parent₀) × (length leaves ≡ length leaves₀) × (length roots ≡ length roots₀)

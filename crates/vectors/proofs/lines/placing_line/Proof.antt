@@ -2,13 +2,13 @@ use Prim.Native.Nat.{_-_}
 use mathlib.Core.Path.{_≡_}
 use lib.ListN.{length}
 use borrow.Author.Needs.{needs}
-use Rattle.vectors.proofs.documents.placing_line.Statement.{statement}
-use Rattle.vectors.proofs.documents.placing_line.Tie as tie
-use Rattle.vectors.proofs.documents.placing_line.Reads as reads
-use Rattle.vectors.proofs.documents.placing_line.Lts as lts
+use Rattle.vectors.proofs.lines.placing_line.Statement.{statement}
+use Rattle.vectors.proofs.lines.placing_line.Tie as tie
+use Rattle.vectors.proofs.lines.placing_line.Reads as reads
+use Rattle.vectors.proofs.lines.placing_line.Lts as lts
 use Rattle.second.proofs.table.byte.Reads as byte-reads
-use Rattle.vectors.proofs.documents.decimal.Reads as decimal-reads
-use Rattle.vectors.proofs.documents.text.Reads as text-reads
+use Rattle.vectors.proofs.lines.decimal.Reads as decimal-reads
+use Rattle.vectors.proofs.lines.text.Reads as text-reads
 
 abbrev Inv-loop : tie.InvT-loop
 Inv-loop placing n v₀ t5 t6 t7 v = (length t5 ≡ 1) × (length t6 ≡ 1) × (length t7 ≡ 1)

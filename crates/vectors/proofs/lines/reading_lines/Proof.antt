@@ -1,15 +1,15 @@
 use Prim.Native.Nat.{_-_}
 use borrow.Author.Needs.{needs}
-use Rattle.vectors.proofs.documents.reading_lines.Statement.{statement}
-use Rattle.vectors.proofs.documents.reading_lines.Tie as tie
-use Rattle.vectors.proofs.documents.reading_lines.Reads as reads
-use Rattle.vectors.proofs.documents.reading_lines.Lts as lts
+use Rattle.vectors.proofs.lines.reading_lines.Statement.{statement}
+use Rattle.vectors.proofs.lines.reading_lines.Tie as tie
+use Rattle.vectors.proofs.lines.reading_lines.Reads as reads
+use Rattle.vectors.proofs.lines.reading_lines.Lts as lts
 use Rattle.counter.proofs.Place.next.Reads as next-reads
 use Rattle.counter.proofs.Place.start.Reads as start-reads
 use Rattle.vectors.proofs.answers.plus.Reads as plus-reads
-use Rattle.vectors.proofs.documents.decimal.Reads as decimal-reads
-use Rattle.vectors.proofs.documents.placing_line.Reads as placing-line-reads
-use Rattle.vectors.proofs.write.nodes_of.Reads as nodes-of-reads
+use Rattle.vectors.proofs.lines.decimal.Reads as decimal-reads
+use Rattle.vectors.proofs.lines.placing_line.Reads as placing-line-reads
+use Rattle.vectors.proofs.unpack.nodes_of.Reads as nodes-of-reads
 
 abbrev Inv-loop : tie.InvT-loop
 Inv-loop sheet readings place₀ number₀ place number = Unit {0}
