@@ -1,7 +1,10 @@
 -- The row with x in it has a just where x is a or has a; the row joined is then stored, and no other changes.
-use mathlib.Core.Path.{_∙_}
+use mathlib.Core.Path.{sym, ap, _∙_}
+use mathlib.Core.Bool.{Bool, _||_}
 use native.Mathlib.Omega.{arith}
 use denote.Ref.{now}
+use lib.Dec.{eqb}
+use Rattle.rows.specs.Rows.{inRow}
 use Rattle.finite.proofs.Laws.{eqb-sym}
 use Rattle.descent.proofs.Edges.{row-kept, row-joined}
 use borrow.Author.Needs.{needs}
@@ -42,7 +45,9 @@ returns : tie.Need-returns
 returns c =
     let a = c .before .before .before .before .before .before .before .before .before .args in
     row-joined (a .a) (a .x) (a .more) (now (a .low)) (now (a .high)) _ _ (omega arith) (omega arith)
-    (rw (eqb-sym (a .x) (a .a), ← c .before .before .before .before .row .ensures (a .a), ← c .before .before .before .with .ensures (a .a), ← c .before .before .has .ensures) (c .before .if1 .taken))
+    (ap (λ (b : Bool). b || inRow (now (a .low)) (now (a .high)) (a .x) (a .a)) (eqb-sym (a .x) (a .a))
+    ∙ sym (c .before .before .has .ensures ∙ c .before .before .before .with .ensures (a .a) ∙ ap (λ (b : Bool). eqb (a .a) (a .x) || b) (c .before .before .before .before .row .ensures (a .a)))
+    ∙ c .before .if1 .taken)
     (λ j. c .union .ensures j ∙ rw (c .before .before .before .before .row .ensures j))
 
 same-length-3 : tie.Need-same-length-3
@@ -55,7 +60,9 @@ returns-2 : tie.Need-returns-2
 returns-2 c =
     let a = c .before .before .before .before .before .before .before .before .args in
     row-kept (a .a) (a .x) (a .more) (now (a .low)) (now (a .high))
-    (rw (eqb-sym (a .x) (a .a), ← c .before .before .before .row .ensures (a .a), ← c .before .before .with .ensures (a .a), ← c .before .has .ensures) (c .if1 .left))
+    (ap (λ (b : Bool). b || inRow (now (a .low)) (now (a .high)) (a .x) (a .a)) (eqb-sym (a .x) (a .a))
+    ∙ sym (c .before .has .ensures ∙ c .before .before .with .ensures (a .a) ∙ ap (λ (b : Bool). eqb (a .a) (a .x) || b) (c .before .before .before .row .ensures (a .a)))
+    ∙ c .if1 .left)
 
 pub extend-spec : {M : Type 1} → statement M
 extend-spec =
