@@ -20,6 +20,9 @@ use Rattle.fork.specs.Given.{Given}
 use Rattle.walking.proofs.States.{at-below}
 use Rattle.walk.specs.Given.{Sheet}
 use Rattle.walk.specs.States.{Stands}
+use Rattle.walk.specs.Moves.{Moves}
+use Rattle.walk.specs.declared.steps.Moved.{Moved}
+use Rattle.walk.specs.declared.steps.Moved.the-variants.{To, End}
 use Rattle.walk.proofs.Walks.{stands-entry}
 use Rattle.numbered.specs.Numbered.{Reaches, Finds}
 use Rattle.numbered.specs.declared.Reached.{Reached}
@@ -68,3 +71,10 @@ roots-below s v m = let b = root-below (s .graph) v (sym (s .ends .roots-are v) 
 -- a walk has room for as many decisions as there are pairs of nodes
 pub room : {n : ℕ} {parents owners : List ℕ} {leaves roots : NodeSet} {base-low base-high : List ℕ} → Sheet n parents owners leaves roots base-low base-high → n * n ≤ 16384
 room {n} s = omega (arith, mul-le-mul (s .parents-table .few) (s .parents-table .few))
+
+-- where the walk goes on, and where it ends
+pub moved-on : (g : Graph) (uppers lowers low high : List ℕ) (k depth : ℕ) (r : Moved) → Moves g uppers lowers low high k r → r ≡ To depth → Stands g uppers lowers low high depth k
+moved-on g uppers lowers low high k depth r x e = rw e at x
+
+pub moved-out : (g : Graph) (uppers lowers low high : List ℕ) (k : ℕ) (r : Moved) → Moves g uppers lowers low high k r → r ≡ End → length (listed g) ≡ k
+moved-out g uppers lowers low high k r x e = rw e at x

@@ -28,7 +28,7 @@ pub enum Reached {
 }
 
 // To the reading with the number k, counted from 1, if there are so many.
-fn reach(
+pub fn reach(
     parent: &[u8],
     owner: &[u8],
     n: usize,

@@ -29,11 +29,9 @@ use Rattle.walking.proofs.States.{at-below, at-entry}
 use Rattle.walk.specs.Decisions.{decisions}
 use Rattle.walk.specs.Given.{Sheet}
 use Rattle.walk.specs.States.{Stands}
-use Rattle.walk.specs.Moves.{Moves}
-use Rattle.walk.specs.declared.steps.Moved.{Moved}
-use Rattle.walk.specs.declared.steps.Moved.the-variants.{To, End}
 use Rattle.walk.proofs.Walks.{stands-given}
-use Rattle.pages.specs.Pages.{joined, linesTo}
+use Rattle.numbered.specs.Numbered.{joined}
+use Rattle.pages.specs.Pages.{linesTo}
 
 -- one line more
 lines-from : (g : Graph) (j k : ℕ) (ps : List (List ℕ)) → k < length ps
@@ -93,13 +91,6 @@ pub settled-line : {n : ℕ} {leaves roots : NodeSet} {low high : List ℕ} (g :
     → take n p ≡ settled g → Written old from (lineIn n roots p k) new end → Written old from (readingLine g k (settled g)) new end
 settled-line {n} {leaves} {roots} g x k p old from new end is w =
     subst (λ (bs : List ℕ). Written old from bs new end) (line-is roots n p k g (x .ends .nodes) (x .ends .roots-are) ∙ ap (readingLine g k) is) w
-
--- where the walk goes on, and where it ends
-pub moved-on : (g : Graph) (uppers lowers low high : List ℕ) (k depth : ℕ) (r : Moved) → Moves g uppers lowers low high k r → r ≡ To depth → Stands g uppers lowers low high depth k
-moved-on g uppers lowers low high k depth r x e = rw e at x
-
-pub moved-out : (g : Graph) (uppers lowers low high : List ℕ) (k : ℕ) (r : Moved) → Moves g uppers lowers low high k r → r ≡ End → length (listed g) ≡ k
-moved-out g uppers lowers low high k r x e = rw e at x
 
 take-reach : (ps : List (List ℕ)) (k : ℕ) → take k ps ≡ take (min (length ps) k) ps
 take-reach ps k =

@@ -1,7 +1,7 @@
 -- A page of the printed list.
 use Prim.Native.Nat.{ℕ, _+_, min}
 use mathlib.Core.Path.{_≡_}
-use mathlib.Core.List.{List, [], _∷_, _++_}
+use mathlib.Core.List.{List, _++_}
 use mathlib.Core.Bool.{true, false}
 use lib.ListN.{length, take}
 use Rattle.graph.specs.Graph.{Graph}
@@ -9,12 +9,8 @@ use Rattle.graph.specs.Order.{limit}
 use Rattle.graph.specs.Text.{numbered}
 use Rattle.listing.proofs.Readings.{listed}
 use Rattle.walk.specs.States.{Stands}
+use Rattle.numbered.specs.Numbered.{joined}
 use Rattle.pages.specs.declared.Page.{Page}
-
--- lines one after the other
-unfoldable pub joined : List (List ℕ) → List ℕ
-joined [] = []
-joined (l ∷ ls) = l ++ joined ls
 
 -- the lines of the readings up to the number k
 abbrev pub linesTo : Graph → ℕ → List ℕ

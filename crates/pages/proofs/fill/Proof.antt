@@ -9,9 +9,9 @@ use borrow.Author.Needs.{needs}
 use Rattle.graph.specs.Order.{limit}
 use Rattle.walk.specs.Given.{Sheet}
 use Rattle.walk.specs.States.{Stands}
-use Rattle.numbered.proofs.Numbers.{roots-below}
+use Rattle.numbered.proofs.Numbers.{roots-below, moved-on, moved-out}
 use Rattle.pages.specs.Pages.{linesTo}
-use Rattle.pages.proofs.Lines.{line-written, stands-below, moved-on, moved-out}
+use Rattle.pages.proofs.Lines.{line-written, stands-below}
 use Rattle.pages.proofs.fill.Statement.{statement}
 use Rattle.pages.proofs.fill.Tie as tie
 
