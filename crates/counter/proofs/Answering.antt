@@ -1,5 +1,5 @@
 -- From what the parts say to what the calls answer, on the tables of a well-formed sheet.
-use Prim.Native.Nat.{ℕ, _+_, _-_, _*_, _≤_, _<_}
+use Prim.Native.Nat.{ℕ, _+_, _-_, _*_, _≤_, _<_, min}
 use mathlib.Core.Path.{_≡_, refl, sym, ap, subst, _∙_}
 use mathlib.Core.List.{List, _++_}
 use mathlib.Core.Bool.{Bool, true, false}
@@ -29,10 +29,11 @@ use Rattle.draw.specs.Drawn as text
 use Rattle.placings.specs.Answered.{Answered}
 use Rattle.placings.specs.declared.Answers.{Answers}
 use Rattle.numbered.specs.Numbered.{Finds}
+use Rattle.stretch.specs.Stretch as stretches
 use Rattle.start.specs.Given.{Given}
 use Rattle.start.specs.Started.{SheetOf}
 use Rattle.start.specs.declared.Start.{Start}
-use Rattle.counter.specs.Calls.{Unsolvable, Counts, ReadingCall, ConfigurationCall, DrawingCall}
+use Rattle.counter.specs.Calls.{Unsolvable, Counts, ReadingCall, StretchCall, ConfigurationCall, DrawingCall}
 use Rattle.counter.specs.Calls as calls
 use Rattle.counter.specs.Checks.{PlacingCall}
 use Rattle.counter.specs.Checks as checks
@@ -87,6 +88,13 @@ module _ {n : ℕ} {parents heads-low heads-high : List ℕ} (s : Given n parent
   no-reading place old new c h u within long spelt rest =
       calls.ReadingCall.none {c = c} (omega (arith, nodes, h)) u (record { fits = omega (arith, h, within); long = long; cycle = spelt (unsolved-tables u); rest = rest })
 
+  -- the same two of a stretch
+  pub unread-stretch : {place : ℕ} {old new : List ℕ} {c : ℕ} → ReadingCall (s .graph) place old (NoReading c) place new → StretchCall (s .graph) place old (NoReading c) place new
+  unread-stretch (calls.ReadingCall.none {c} h u w) = calls.StretchCall.none {c = c} h u w
+
+  pub small-stretch : (place : ℕ) (old : List ℕ) → length old < 2 * n → StretchCall (s .graph) place old (Refused SmallBuffer) place old
+  small-stretch place old h = calls.StretchCall.small (omega (arith, nodes, h))
+
   pub small-drawing : (k : ℕ) (old : List ℕ) → length old < 1024 → DrawingCall (s .graph) k old (DrawnRefused SmallBuffer) old
   small-drawing k old h = calls.DrawingCall.small h
 
@@ -128,6 +136,28 @@ module _ {n : ℕ} {parents heads-low heads-high : List ℕ} (s : Given n parent
 
     pub past-last : (place : ℕ) (old : List ℕ) → 2 * n ≤ length old → limit ≤ place → ReadingCall (s .graph) place old (Refused NoSuchReading) place old
     past-last place old h over = calls.ReadingCall.beyond (listed (s .graph)) (omega (arith, nodes, h)) lists some (omega (arith, over))
+
+    module _ {place last : ℕ} {old new : List ℕ} (room : 2 * n ≤ length old) (f : (y : Sheet n parents owners (r .leaves) (r .roots) low high) → stretches.StretchOf (y .graph) place old last new) where
+      stretched : stretches.StretchOf (s .graph) place old last new
+      stretched = subst (λ (g : Graph). stretches.StretchOf g place old last new) (x .is) (f (x .sheet))
+
+      pub none-after : last ≡ place → StretchCall (s .graph) place old (Refused NoSuchReading) place new
+      none-after e =
+          ⊎-elim
+          (λ (y : (min (length (listed (s .graph))) limit ≤ place) × (last ≡ place) × (new ≡ old)).
+          subst (λ (m : List ℕ). StretchCall (s .graph) place old (Refused NoSuchReading) place m) (sym (y .2))
+          (calls.StretchCall.beyond (listed (s .graph)) (omega (arith, nodes, room)) lists some (y .0)))
+          (λ (y : stretches.Filled (s .graph) place old last new). absurd (omega (arith, y .some, e)))
+          stretched
+
+      pub read-after : (last ≡ place → ⊥) → StretchCall (s .graph) place old Done last new
+      read-after e =
+          ⊎-elim
+          (λ (y : (min (length (listed (s .graph))) limit ≤ place) × (last ≡ place) × (new ≡ old)). absurd (e (y .1)))
+          (λ (y : stretches.Filled (s .graph) place old last new).
+          subst (λ (m : List ℕ). StretchCall (s .graph) place old Done last m) (sym (y .bytes))
+          (calls.StretchCall.read (listed (s .graph)) (omega (arith, nodes, room)) lists (y .some) (y .within) (y .fits) (y .full)))
+          stretched
 
     pub no-such-drawing : (k : ℕ) (old : List ℕ) → 1024 ≤ length old → (k ≡ 0) ⊎ (limit < k) → DrawingCall (s .graph) k old (DrawnRefused NoSuchReading) old
     no-such-drawing k old h (inl e) = calls.DrawingCall.beyond (listed (s .graph)) h lists some (inl e)

@@ -16,6 +16,7 @@ use Rattle.graph.specs.Cycle.{hypernormalCycle}
 use Rattle.graph.specs.Drawing.{drawing}
 use Rattle.graph.specs.Refusal.{number}
 use Rattle.graph.specs.declared.Refusal.the-variants.{NoReading as No-reading, SmallBuffer, NoSuchReading}
+use Rattle.stretch.specs.Stretch.{placings}
 use Rattle.counter.specs.declared.Counted.{Counted}
 use Rattle.counter.specs.declared.Counted.the-variants.{Readings, Refused as CountRefused}
 use Rattle.counter.specs.declared.Placed.{Placed}
@@ -64,6 +65,15 @@ pub data ReadingCall (g : Graph) (place : ℕ) (old : List ℕ) : Placed → ℕ
   beyond : (ps : List (List ℕ)) → 2 * g .nodes ≤ length old → Listing g ps → 0 < length ps → reach ps ≤ place → ReadingCall g place old (Refused NoSuchReading) place old
   read : (ps : List (List ℕ)) → 2 * g .nodes ≤ length old → Listing g ps → place < reach ps → ReadingCall g place old Done (place + 1) (entry ps place ++ drop (g .nodes) old)
 
+-- the readings after a place, one after the other: as many as are left and as there is room for
+pub data StretchCall (g : Graph) (place : ℕ) (old : List ℕ) : Placed → ℕ → List ℕ → Type 0 where
+  small : length old < 2 * g .nodes → StretchCall g place old (Refused SmallBuffer) place old
+  none : {c : ℕ} {new : List ℕ} → 2 * g .nodes ≤ length old → Unsolvable g → CycleWritten g old c new → StretchCall g place old (NoReading c) place new
+  beyond : (ps : List (List ℕ)) → 2 * g .nodes ≤ length old → Listing g ps → 0 < length ps → reach ps ≤ place → StretchCall g place old (Refused NoSuchReading) place old
+  read : (ps : List (List ℕ)) {last : ℕ} → 2 * g .nodes ≤ length old → Listing g ps → place < last → last ≤ reach ps → length (placings ps place last) ≤ length old
+      → (last ≡ reach ps) ⊎ (length old < length (placings ps place last) + g .nodes)
+      → StretchCall g place old Done last (placings ps place last ++ drop (length (placings ps place last)) old)
+
 -- the configuration of a well-formed sheet
 pub data ConfigurationCall (g : Graph) (old : List ℕ) : Placed → List ℕ → Type 0 where
   small : length old < 2 * g .nodes → ConfigurationCall g old (Refused SmallBuffer) old
@@ -86,6 +96,10 @@ CountOf (accepted g) r = Counts g r
 abbrev pub ReadingOf : Outcome → ℕ → List ℕ → Placed → ℕ → List ℕ → Type 0
 ReadingOf (refused why) place old r place′ new = (r ≡ Refused why) × (place′ ≡ place) × (new ≡ old)
 ReadingOf (accepted g) place old r place′ new = ReadingCall g place old r place′ new
+
+abbrev pub StretchOf : Outcome → ℕ → List ℕ → Placed → ℕ → List ℕ → Type 0
+StretchOf (refused why) place old r place′ new = (r ≡ Refused why) × (place′ ≡ place) × (new ≡ old)
+StretchOf (accepted g) place old r place′ new = StretchCall g place old r place′ new
 
 abbrev pub ConfigurationOf : Outcome → List ℕ → Placed → List ℕ → Type 0
 ConfigurationOf (refused why) old r new = (r ≡ Refused why) × (new ≡ old)

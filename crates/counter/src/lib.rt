@@ -13,12 +13,13 @@ use tables::configuration_of;
 use tables::count_of;
 use tables::drawing_of;
 use tables::reading_of;
+use tables::stretch_of;
 use tidy::Tidied;
 ghost use mathlib.Core.Path.{_≡_};
 ghost use Rattle.graph.specs.Sheet.{outcome};
 ghost use Rattle.tidy.specs.Tidy.{Tidies};
 ghost use Rattle.fragments.specs.Table.{Tabled};
-ghost use Rattle.counter.specs.Calls.{CountOf, ReadingOf, ConfigurationOf, DrawingOf};
+ghost use Rattle.counter.specs.Calls.{CountOf, ReadingOf, StretchOf, ConfigurationOf, DrawingOf};
 ghost use Rattle.counter.specs.Checks.{CycleOf, PlacingOf};
 
 // The answer to the count.
@@ -104,6 +105,27 @@ impl Place {
                 place: self,
             },
             Verdict::Accepted => reading_of(&parent, &low, &high, graph.n, self, out),
+        }
+    }
+
+    // The readings after the place, n bytes each, in one walk: as many as are left and as there is room for; or the cycle.
+    pub fn fill(self, sheet: &[u8], out: &mut [u8]) -> Next
+        ensures { λ r. ⌜
+            StretchOf (outcome (now (sheet .entry))) (self .number) (now (out .entry)) (r .answer) (r .place .number) (now (out .exit))
+            ⌝ }
+    {
+        let answer = read(sheet);
+        let verdict = answer.verdict;
+        let graph = answer.graph;
+        let parent = graph.parent;
+        let low = graph.low;
+        let high = graph.high;
+        match verdict {
+            Verdict::Refused(why) => Next {
+                answer: Placed::Refused(why),
+                place: self,
+            },
+            Verdict::Accepted => stretch_of(&parent, &low, &high, graph.n, self, out),
         }
     }
 }

@@ -13,9 +13,10 @@ use numbered::LAST;
 use numbered::count;
 use numbered::find;
 use start::begin;
+use stretch::stretch;
 use witness::witness;
 ghost use Rattle.start.specs.Given.{Given};
-ghost use Rattle.counter.specs.Calls.{Counts, ReadingCall, ConfigurationCall, DrawingCall};
+ghost use Rattle.counter.specs.Calls.{Counts, ReadingCall, StretchCall, ConfigurationCall, DrawingCall};
 ghost use Rattle.counter.specs.Checks.{PlacingCall};
 
 // The bytes that a drawing is lent at least.
@@ -108,6 +109,69 @@ pub(crate) fn reading_of(
     Next {
         answer: Placed::Refused(Refusal::NoSuchReading),
         place,
+    }
+}
+
+pub(crate) fn stretch_of(
+    parent: &[u8],
+    heads_low: &[u64],
+    heads_high: &[u64],
+    n: usize,
+    place: Place,
+    out: &mut [u8],
+) -> Next
+    requires { ⌜ Given n (now parent) (now «heads_low») (now «heads_high») ⌝ }
+    ensures { λ r. ⌜
+        ((s : Given n (now (parent .entry)) (now («heads_low» .entry)) (now («heads_high» .entry))) →
+        StretchCall (s .graph) (place .number) (now (out .entry)) (r .answer) (r .place .number) (now (out .exit)))
+        ⌝ }
+{
+    if out.len() < 2 * n {
+        return Next {
+            answer: Placed::Refused(Refusal::SmallBuffer),
+            place,
+        };
+    }
+    let mut owner = [0u8; 128];
+    let mut low = [0u64; 128];
+    let mut high = [0u64; 128];
+    let begun = begin(
+        parent,
+        heads_low,
+        heads_high,
+        n,
+        &mut owner,
+        &mut low,
+        &mut high,
+    );
+    if !begun.solvable {
+        let pairs = witness(parent, heads_low, heads_high, n, out);
+        return Next {
+            answer: Placed::NoReading(pairs),
+            place,
+        };
+    }
+    let passed = place.number;
+    let last = stretch(
+        parent,
+        &owner,
+        n,
+        begun.leaves,
+        begun.roots,
+        &low,
+        &high,
+        passed,
+        out,
+    );
+    if last == passed {
+        return Next {
+            answer: Placed::Refused(Refusal::NoSuchReading),
+            place,
+        };
+    }
+    Next {
+        answer: Placed::Done,
+        place: Place { number: last },
     }
 }
 

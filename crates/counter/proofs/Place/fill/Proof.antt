@@ -1,0 +1,60 @@
+-- The sheet's refusal, or the answer of its tables.
+use mathlib.Core.Path.{refl}
+use denote.Ref.{now}
+use Rattle.rows.proofs.Answers.{answered-refused}
+use Rattle.start.proofs.Sheets.{sheet-of}
+use borrow.Author.Needs.{needs}
+use Rattle.counter.proofs.Place.fill.Statement.{statement}
+use Rattle.counter.proofs.Place.fill.Tie as tie
+
+read-requires : tie.Need-read-requires
+read-requires c κs = search needs
+
+enum-known-verdict : tie.Need-enum-known-verdict
+enum-known-verdict c = search needs
+
+enum-told : tie.Need-enum-told
+enum-told c = search needs
+
+slice-aggregate-stretch-of : tie.Need-slice-aggregate-stretch-of
+slice-aggregate-stretch-of c = search needs
+
+slice-aggregate-stretch-of-2 : tie.Need-slice-aggregate-stretch-of-2
+slice-aggregate-stretch-of-2 c = search needs
+
+slice-aggregate-stretch-of-3 : tie.Need-slice-aggregate-stretch-of-3
+slice-aggregate-stretch-of-3 c = search needs
+
+stretch-of-requires : tie.Need-stretch-of-requires
+stretch-of-requires c κs =
+    let r = c .before .before .before .before .before .before .before .before .before .before .read in
+    sheet-of (now (c .before .before .before .before .before .before .before .before .before .before .before .before .before .args .sheet)) (r .result) (r .ensures) (c .before .before .before .before .enum-told .given .1) .tables
+
+returns : tie.Need-returns
+returns c =
+    let r = c .before .before .before .before .before .before .before .read in
+    rw (answered-refused (now (c .before .before .before .before .before .before .before .before .before .before .args .sheet)) (r .result) _ (r .ensures) (c .before .verdict .given .1)) (refl, refl, refl)
+
+same-length : tie.Need-same-length
+same-length c = search needs
+
+returns-2 : tie.Need-returns-2
+returns-2 c =
+    let r = c .before .before .before .before .before .before .before .before .before .before .before .before .before .read in
+    let x = sheet-of (now (c .before .before .before .before .before .before .before .before .before .before .before .before .before .before .before .before .args .sheet)) (r .result) (r .ensures) (c .before .before .before .before .before .before .before .enum-told .given .1) in
+    rw (x .is) (c .before .before .stretch-of .ensures (x .tables))
+
+pub fill-spec : {M : Type 1} → statement M
+fill-spec =
+    tie.close
+    (tie.spec
+    read-requires
+    enum-known-verdict
+    enum-told
+    slice-aggregate-stretch-of
+    slice-aggregate-stretch-of-2
+    slice-aggregate-stretch-of-3
+    stretch-of-requires
+    returns
+    same-length
+    returns-2)
