@@ -1,0 +1,110 @@
+// The calls of `counter` for programs in C. The result of each is 0 or the number of the refusal; what the answer carries is put
+// where the caller wants it. include/bixtogan.h is the page for callers.
+mod put;
+
+use counter::Place;
+use put::put_count;
+use put::put_cycle;
+use put::put_drawn;
+use put::put_placed;
+use put::put_placing;
+use put::put_table;
+use put::put_tidied;
+ghost use Rattle.graph.specs.Sheet.{outcome};
+ghost use Rattle.capi.specs.Interface.{CountTold, ReadingTold, ConfigurationTold, DrawingTold, TidyTold, FragmentsTold, CycleTold, PlacingTold};
+
+#[no_mangle]
+pub extern "C" fn bixtogan_count(sheet: &[u8], readings: &mut u64) -> u8
+    ensures { λ r. ⌜ CountTold (outcome (now (sheet .entry))) r (now (readings .entry)) (now (readings .exit)) ⌝ }
+{
+    let answer = counter::count(sheet);
+    put_count(answer, readings)
+}
+
+// A refusal hands the place back as it was.
+#[no_mangle]
+pub extern "C" fn bixtogan_reading(
+    sheet: &[u8],
+    place: &mut u64,
+    out: &mut [u8],
+    pairs: &mut u64,
+) -> u8
+    ensures { λ r. ⌜
+        ReadingTold (outcome (now (sheet .entry))) r (now (place .entry)) (now (place .exit)) (now (out .entry)) (now (out .exit))
+        (now (pairs .entry)) (now (pairs .exit))
+        ⌝ }
+{
+    let from = Place {
+        number: *place as usize,
+    };
+    let next = from.next(sheet, out);
+    let answer = next.answer;
+    let moved = next.place;
+    *place = moved.number as u64;
+    put_placed(answer, pairs)
+}
+
+#[no_mangle]
+pub extern "C" fn bixtogan_configuration(sheet: &[u8], out: &mut [u8], pairs: &mut u64) -> u8
+    ensures { λ r. ⌜
+        ConfigurationTold (outcome (now (sheet .entry))) r (now (out .entry)) (now (out .exit)) (now (pairs .entry)) (now (pairs .exit))
+        ⌝ }
+{
+    let answer = counter::configuration(sheet, out);
+    put_placed(answer, pairs)
+}
+
+#[no_mangle]
+pub extern "C" fn bixtogan_drawing(
+    sheet: &[u8],
+    number: u64,
+    out: &mut [u8],
+    length: &mut u64,
+) -> u8
+    ensures { λ r. ⌜
+        DrawingTold (outcome (now (sheet .entry))) r number (now (out .entry)) (now (out .exit)) (now (length .entry)) (now (length .exit))
+        ⌝ }
+{
+    let answer = counter::drawing(sheet, number as usize, out);
+    put_drawn(answer, length)
+}
+
+#[no_mangle]
+pub extern "C" fn bixtogan_tidy(sheet: &[u8], out: &mut [u8], length: &mut u64) -> u8
+    ensures { λ r. ⌜
+        TidyTold (outcome (now (sheet .entry))) r (now (out .entry)) (now (out .exit)) (now (length .entry)) (now (length .exit))
+        ⌝ }
+{
+    let answer = counter::tidy(sheet, out);
+    put_tidied(answer, length)
+}
+
+#[no_mangle]
+pub extern "C" fn bixtogan_fragments(sheet: &[u8], out: &mut [u8], records: &mut u64) -> u8
+    ensures { λ r. ⌜
+        FragmentsTold (outcome (now (sheet .entry))) r (now (out .entry)) (now (out .exit)) (now (records .entry)) (now (records .exit))
+        ⌝ }
+{
+    let answer = counter::fragment_table(sheet, out);
+    put_table(answer, records)
+}
+
+#[no_mangle]
+pub extern "C" fn bixtogan_check_cycle(sheet: &[u8], cycle: &[u8], yes: &mut u8) -> u8
+    ensures { λ r. ⌜
+        CycleTold (outcome (now (sheet .entry))) r (now (cycle .entry)) (now (yes .entry)) (now (yes .exit))
+        ⌝ }
+{
+    let answer = counter::check_cycle(sheet, cycle);
+    put_cycle(answer, yes)
+}
+
+#[no_mangle]
+pub extern "C" fn bixtogan_check_placing(sheet: &[u8], placing: &[u8], answers: &mut u8) -> u8
+    ensures { λ r. ⌜
+        PlacingTold (outcome (now (sheet .entry))) r (now (placing .entry)) (now (answers .entry)) (now (answers .exit))
+        ⌝ }
+{
+    let answer = counter::check_placing(sheet, placing);
+    put_placing(answer, answers)
+}
