@@ -1,0 +1,170 @@
+/*
+ * Bixtogan: counts, lists, draws and checks the readings of a dominance sheet.
+ *
+ * A sheet is a run of bytes:
+ *
+ *     0x01 n      there are n nodes, 2 to 128, numbered from 0; comes first, and once
+ *     0x02 p c    a tree edge from parent p to child c
+ *     0x03 l r    a dominance edge from leaf l to root r; at most 255 of them, all different
+ *     0x00        the end, the last byte
+ *
+ * Tree edges and dominance edges come in any order. The tree edges make trees of two or more
+ * nodes each, the fragments. A dominance edge goes from a leaf to a root, of one fragment or two.
+ *
+ * A placing is n bytes, one for each node: of a root the leaf that it hangs under, and
+ * BIXTOGAN_TOP of a root on top and of a node that is no root. Readings are placings, and so are
+ * solved forms and configurations. Readings are numbered from 1.
+ *
+ * Every function returns BIXTOGAN_DONE, which is 0, or the number of a refusal, 1 to 11. Each
+ * tests its own input, so any bytes may be handed in. A fault of the sheet (1 to 8) comes
+ * first, the earliest in its bytes; a cycle of tree edges, 5 and 6 are looked for after the last
+ * command. The other numbers come in the order in which the function lists them.
+ *
+ * A refusal leaves all memory of the caller as it was, with one exception: where reading and
+ * configuration answer that there is no reading (9), they write a cycle that shows it, and its
+ * number of pairs. Bytes past a result are left as they were.
+ *
+ * The caller sees to it that
+ *  - no pointer is null, not even one with the length 0;
+ *  - each points to as many bytes as the length after it says, or to one number;
+ *  - what a function may write is lent to it only once, and used by nobody else meanwhile.
+ * The functions keep nothing between calls, allocate nothing and need some tens of kilobytes of
+ * stack. They may run in several threads at once.
+ */
+#ifndef BIXTOGAN_H
+#define BIXTOGAN_H
+
+#include <stddef.h>
+#include <stdint.h>
+
+#ifdef __cplusplus
+extern "C" {
+#endif
+
+/* Limits. */
+#define BIXTOGAN_NODES_MAX 128           /* nodes of a sheet */
+#define BIXTOGAN_DOMINANCE_EDGES_MAX 255 /* dominance edges of a sheet */
+#define BIXTOGAN_SHEET_MAX 1149          /* bytes of a well-formed sheet */
+#define BIXTOGAN_READINGS_MAX 65535      /* the highest exact count, and the highest number */
+
+/* Bytes that are enough for any sheet. */
+#define BIXTOGAN_PLACING_ROOM 256   /* a reading, a configuration, the cycle of 9 */
+#define BIXTOGAN_DRAWING_ROOM 1024  /* a drawing; no fewer are taken */
+#define BIXTOGAN_TIDY_ROOM 1149     /* a tidy sheet */
+#define BIXTOGAN_FRAGMENTS_ROOM 192 /* a fragment table: 64 records of three bytes */
+
+/* In a placing: a root on top, or a node that is no root. */
+#define BIXTOGAN_TOP 255
+
+/* As a count: more than BIXTOGAN_READINGS_MAX. */
+#define BIXTOGAN_MORE 65536
+
+/* What a function returns: an answer, .. */
+#define BIXTOGAN_DONE 0
+/* .. or that the sheet is not well-formed, .. */
+#define BIXTOGAN_MISSING 1  /* a needed byte is missing */
+#define BIXTOGAN_COMMAND 2  /* a command is unknown or out of place, or a byte follows the end */
+#define BIXTOGAN_RANGE 3    /* n is outside 2 to 128, or an operand is n or more */
+#define BIXTOGAN_TREE 4     /* an edge from a node to itself, a second parent, or a cycle */
+#define BIXTOGAN_BARE 5     /* a node has no tree edge */
+#define BIXTOGAN_ENDS 6     /* a dominance edge does not go from a leaf to a root */
+#define BIXTOGAN_REPEATED 7 /* a dominance edge has stood before */
+#define BIXTOGAN_TOO_MANY 8 /* a dominance edge would be the 256th */
+/* .. or that it has no solved form, and so no reading, .. */
+#define BIXTOGAN_NO_READING 9
+/* .. or that the call asks what cannot be. */
+#define BIXTOGAN_SMALL_BUFFER 10    /* a buffer is too small */
+#define BIXTOGAN_NO_SUCH_READING 11 /* the number wanted is 0, or beyond the count or 65,535 */
+
+/* The answers to the check of a placing, to be added up. */
+#define BIXTOGAN_SOLVED_FORM 1
+#define BIXTOGAN_CONFIGURATION 2
+#define BIXTOGAN_READING 4
+
+/*
+ * How many readings the sheet has. *readings becomes 1 to 65,535, or BIXTOGAN_MORE.
+ *
+ * Refusals: 1 to 8, 9.
+ */
+uint8_t bixtogan_count(const uint8_t *sheet, size_t sheet_length, uint64_t *readings);
+
+/*
+ * The reading after a place. *place is the number of the last reading handed out, 0 before the
+ * first. The next reading fills the first n bytes of out, and *place becomes its number. So
+ * calls in a row list the readings, and the call after the last is refused with 11. (Each call
+ * walks from reading 1 on.)
+ *
+ * out has at least 2n bytes. Where there is no reading (9), a cycle fills the first 2c of them
+ * and *pairs becomes c: c pairs of a node and the kind of the edge that leads to the next
+ * node, 2 for a tree edge and 3 for a dominance edge, the last leading to the first. It is a
+ * simple hypernormal cycle, as bixtogan_check_cycle confirms. Otherwise *pairs stays as it was.
+ *
+ * Refusals: 1 to 8, 10, 9, 11. After any of them *place is what it was.
+ */
+uint8_t bixtogan_reading(const uint8_t *sheet, size_t sheet_length, uint64_t *place,
+                         uint8_t *out, size_t out_length, uint64_t *pairs);
+
+/*
+ * A configuration, which is a solved form with no two roots under one leaf. It is made from
+ * reading 1, and fills the first n bytes of out. out and pairs are as for bixtogan_reading.
+ *
+ * Refusals: 1 to 8, 10, 9.
+ */
+uint8_t bixtogan_configuration(const uint8_t *sheet, size_t sheet_length,
+                               uint8_t *out, size_t out_length, uint64_t *pairs);
+
+/*
+ * The drawing of the reading with this number, a text such as 0(1[6(7)],2). It fills the first
+ * bytes of out, and *length becomes how many; no 0 byte is put after it. out has at least 1,024
+ * bytes, however short the drawing is.
+ *
+ * Refusals: 1 to 8, 10, 9, 11.
+ */
+uint8_t bixtogan_drawing(const uint8_t *sheet, size_t sheet_length, uint64_t number,
+                         uint8_t *out, size_t out_length, uint64_t *length);
+
+/*
+ * The tidy sheet of the same nodes and edges: tree edges by child, then dominance edges by leaf
+ * and root. It fills the first bytes of out, and *length becomes how many. A tidy sheet is as long
+ * as the sheet that it comes from, and out is at least as long.
+ *
+ * Refusals: 1 to 8, 10.
+ */
+uint8_t bixtogan_tidy(const uint8_t *sheet, size_t sheet_length,
+                      uint8_t *out, size_t out_length, uint64_t *length);
+
+/*
+ * The fragments, a record of three bytes each: root, lowest leaf, number of leaves. The records
+ * come by ascending root and fill the first bytes of out; *records becomes how many records
+ * there are. out has at least three bytes for each fragment.
+ *
+ * Refusals: 1 to 8, 10.
+ */
+uint8_t bixtogan_fragments(const uint8_t *sheet, size_t sheet_length,
+                           uint8_t *out, size_t out_length, uint64_t *records);
+
+/*
+ * Whether the bytes, all of them, spell a simple hypernormal cycle of the sheet, in pairs as
+ * with bixtogan_reading. *yes becomes 1 or 0. There is such a cycle exactly where there is no
+ * reading. The bytes may come from anybody, and any length will do.
+ *
+ * Refusals: 1 to 8.
+ */
+uint8_t bixtogan_check_cycle(const uint8_t *sheet, size_t sheet_length,
+                             const uint8_t *cycle, size_t cycle_length, uint8_t *yes);
+
+/*
+ * What the first n bytes of placing are. *answers becomes the sum of BIXTOGAN_SOLVED_FORM,
+ * BIXTOGAN_CONFIGURATION and BIXTOGAN_READING, each where they are one; bytes that are no
+ * placing of the sheet get 0. placing has at least n bytes.
+ *
+ * Refusals: 1 to 8, 10.
+ */
+uint8_t bixtogan_check_placing(const uint8_t *sheet, size_t sheet_length,
+                               const uint8_t *placing, size_t placing_length, uint8_t *answers);
+
+#ifdef __cplusplus
+}
+#endif
+
+#endif
