@@ -1,0 +1,378 @@
+/*
+ * Each function of the library called for an answer and for its refusals, with the worked cases of
+ * the requirements. The memory that is lent lies between guard bytes, and whatever a call is not
+ * to write must be as it was.
+ */
+#include "bixtogan.h"
+
+#include <stdio.h>
+#include <string.h>
+
+#define LENGTH(array) (sizeof(array) / sizeof((array)[0]))
+
+#define GUARD 32
+#define ROOM 2048
+#define OLD 0xa5
+#define OLD_VALUE 77
+
+#define TOP BIXTOGAN_TOP
+
+static int passed, failed;
+
+static void expect(int holds, const char *what)
+{
+    if (holds) {
+        passed++;
+    } else {
+        failed++;
+        fprintf(stderr, "failed: %s\n", what);
+    }
+}
+
+/* Lent memory. */
+
+static uint8_t memory[GUARD + ROOM + GUARD];
+static uint8_t *const out = memory + GUARD;
+
+/* What the functions put their values into. */
+static uint64_t value;
+static uint8_t answer;
+
+static void lend(void)
+{
+    memset(memory, OLD, sizeof memory);
+    value = OLD_VALUE;
+    answer = OLD_VALUE;
+}
+
+/* Whether every byte but the first `written` of out is as it was. */
+static int unwritten_past(size_t written)
+{
+    const uint8_t *byte;
+
+    for (byte = memory; byte < memory + sizeof memory; byte++)
+        if ((byte < out || byte >= out + written) && *byte != OLD)
+            return 0;
+    return 1;
+}
+
+static int wrote(const uint8_t *bytes, size_t length)
+{
+    return memcmp(out, bytes, length) == 0 && unwritten_past(length);
+}
+
+static int wrote_nothing(void)
+{
+    return unwritten_past(0) && value == OLD_VALUE && answer == OLD_VALUE;
+}
+
+/* Sheets. */
+
+static const uint8_t chain[] = {
+    1, 12,
+    2, 0, 1,  2, 0, 2,  2, 3, 4,  2, 3, 5,  2, 6, 7,  2, 8, 9,  2, 10, 11,
+    3, 1, 6,  3, 2, 8,  3, 4, 8,  3, 5, 10,
+    0,
+};
+static const uint8_t chain_untidy[] = {
+    1, 12,
+    3, 5, 10,  2, 10, 11,  2, 8, 9,  3, 4, 8,  2, 6, 7,  2, 3, 5,  2, 3, 4,  3, 2, 8,
+    2, 0, 2,  2, 0, 1,  3, 1, 6,
+    0,
+};
+static const uint8_t loop[] = {1, 2, 2, 0, 1, 3, 1, 0, 0};
+static const uint8_t forked[] = {1, 5, 2, 0, 1, 2, 0, 2, 2, 3, 4, 3, 1, 3, 3, 2, 3, 0};
+static const uint8_t square[] = {
+    1, 8,
+    2, 0, 1,  2, 2, 3,  2, 4, 5,  2, 6, 7,
+    3, 1, 4,  3, 1, 6,  3, 3, 4,  3, 3, 6,
+    0,
+};
+
+static size_t put(uint8_t *sheet, size_t at, int command, int a, int b)
+{
+    sheet[at] = (uint8_t)command;
+    sheet[at + 1] = (uint8_t)a;
+    sheet[at + 2] = (uint8_t)b;
+    return at + 3;
+}
+
+/*
+ * The chain of k, continued in the manner of the chain of two: k fragments with two leaves, each
+ * leaf with a dominance edge to one of k + 1 fragments with one leaf.
+ */
+static size_t chain_of(int k, uint8_t *sheet)
+{
+    size_t at = 0;
+    int i;
+
+    sheet[at++] = 1;
+    sheet[at++] = (uint8_t)(5 * k + 2);
+    for (i = 0; i < k; i++) {
+        at = put(sheet, at, 2, 3 * i, 3 * i + 1);
+        at = put(sheet, at, 2, 3 * i, 3 * i + 2);
+    }
+    for (i = 0; i <= k; i++)
+        at = put(sheet, at, 2, 3 * k + 2 * i, 3 * k + 2 * i + 1);
+    for (i = 0; i < k; i++) {
+        at = put(sheet, at, 3, 3 * i + 1, 3 * k + 2 * i);
+        at = put(sheet, at, 3, 3 * i + 2, 3 * k + 2 * i + 2);
+    }
+    sheet[at++] = 0;
+    return at;
+}
+
+/* 32 fragments of two nodes, and so many dominance edges, at most 256. */
+static size_t with_edges(int edges, uint8_t *sheet)
+{
+    size_t at = 0;
+    int i;
+
+    sheet[at++] = 1;
+    sheet[at++] = 64;
+    for (i = 0; i < 32; i++)
+        at = put(sheet, at, 2, 2 * i, 2 * i + 1);
+    for (i = 0; i < edges; i++)
+        at = put(sheet, at, 3, 2 * (i / 16) + 1, 2 * (i % 16));
+    sheet[at++] = 0;
+    return at;
+}
+
+/* The calls. */
+
+static void counts(void)
+{
+    uint8_t sheet[BIXTOGAN_SHEET_MAX];
+
+    lend();
+    expect(bixtogan_count(chain, sizeof chain, &value) == BIXTOGAN_DONE && value == 2,
+           "count of the chain of two");
+    lend();
+    expect(bixtogan_count(sheet, chain_of(8, sheet), &value) == BIXTOGAN_DONE && value == 1430,
+           "count of the chain of eight");
+    lend();
+    expect(bixtogan_count(sheet, chain_of(12, sheet), &value) == BIXTOGAN_DONE
+               && value == BIXTOGAN_MORE,
+           "count of the chain of twelve");
+    lend();
+    expect(bixtogan_count(loop, sizeof loop, &value) == BIXTOGAN_NO_READING && wrote_nothing(),
+           "count where no reading is");
+}
+
+static void readings(void)
+{
+    static const uint8_t first[12] = {TOP, TOP, TOP, 2, TOP, TOP, 1, TOP, 4, TOP, 5, TOP};
+    static const uint8_t second[12] = {4, TOP, TOP, TOP, TOP, TOP, 1, TOP, 2, TOP, 5, TOP};
+    uint64_t place = 0;
+    uint8_t number, yes = OLD_VALUE;
+
+    lend();
+    number = bixtogan_reading(chain, sizeof chain, &place, out, 24, &value);
+    expect(number == BIXTOGAN_DONE && place == 1 && wrote(first, 12) && value == OLD_VALUE,
+           "reading 1");
+    lend();
+    number = bixtogan_reading(chain, sizeof chain, &place, out, 24, &value);
+    expect(number == BIXTOGAN_DONE && place == 2 && wrote(second, 12) && value == OLD_VALUE,
+           "reading 2");
+    lend();
+    number = bixtogan_reading(chain, sizeof chain, &place, out, 24, &value);
+    expect(number == BIXTOGAN_NO_SUCH_READING && place == 2 && wrote_nothing(),
+           "reading past the last");
+    place = UINT64_MAX;
+    number = bixtogan_reading(chain, sizeof chain, &place, out, 24, &value);
+    expect(number == BIXTOGAN_NO_SUCH_READING && place == UINT64_MAX && wrote_nothing(),
+           "reading past the largest place");
+    place = 1;
+    number = bixtogan_reading(chain, sizeof chain, &place, out, 23, &value);
+    expect(number == BIXTOGAN_SMALL_BUFFER && place == 1 && wrote_nothing(),
+           "reading into a small buffer");
+    number = bixtogan_reading(loop, sizeof loop, &place, out, ROOM, &value);
+    expect(number == BIXTOGAN_NO_READING && place == 1 && value == 2 && unwritten_past(4),
+           "reading where none is");
+    expect(bixtogan_check_cycle(loop, sizeof loop, out, 4, &yes) == BIXTOGAN_DONE && yes == 1,
+           "the cycle of a reading");
+}
+
+static void configurations(void)
+{
+    static const uint8_t configured[8] = {TOP, TOP, 1, TOP, 3, TOP, 5, TOP};
+    uint8_t number, yes = OLD_VALUE;
+
+    lend();
+    number = bixtogan_configuration(square, sizeof square, out, 16, &value);
+    expect(number == BIXTOGAN_DONE && wrote(configured, 8) && value == OLD_VALUE, "configuration");
+    lend();
+    number = bixtogan_configuration(square, sizeof square, out, 15, &value);
+    expect(number == BIXTOGAN_SMALL_BUFFER && wrote_nothing(), "configuration into a small buffer");
+    number = bixtogan_configuration(forked, sizeof forked, out, 10, &value);
+    expect(number == BIXTOGAN_NO_READING && value == 4 && unwritten_past(8),
+           "configuration where no reading is");
+    expect(bixtogan_check_cycle(forked, sizeof forked, out, 8, &yes) == BIXTOGAN_DONE && yes == 1,
+           "the cycle of a configuration");
+}
+
+static void drawings(void)
+{
+    static const char text[] = "0(1[6(7)],2[3(4[8(9)],5[10(11)])])";
+    uint8_t number;
+
+    lend();
+    number = bixtogan_drawing(chain, sizeof chain, 1, out, 1024, &value);
+    expect(number == BIXTOGAN_DONE && value == strlen(text)
+               && wrote((const uint8_t *)text, strlen(text)),
+           "drawing of reading 1");
+    lend();
+    number = bixtogan_drawing(chain, sizeof chain, 1, out, 1023, &value);
+    expect(number == BIXTOGAN_SMALL_BUFFER && wrote_nothing(), "drawing into a small buffer");
+    number = bixtogan_drawing(chain, sizeof chain, 0, out, 1024, &value);
+    expect(number == BIXTOGAN_NO_SUCH_READING && wrote_nothing(), "drawing of number 0");
+    number = bixtogan_drawing(chain, sizeof chain, 3, out, 1024, &value);
+    expect(number == BIXTOGAN_NO_SUCH_READING && wrote_nothing(), "drawing past the last");
+    number = bixtogan_drawing(chain, sizeof chain, UINT64_MAX, out, 1024, &value);
+    expect(number == BIXTOGAN_NO_SUCH_READING && wrote_nothing(), "drawing of the largest number");
+    number = bixtogan_drawing(loop, sizeof loop, 1, out, 1024, &value);
+    expect(number == BIXTOGAN_NO_READING && wrote_nothing(), "drawing where no reading is");
+}
+
+static void tidied(void)
+{
+    uint8_t sheet[BIXTOGAN_SHEET_MAX];
+    uint8_t number;
+    size_t length;
+
+    lend();
+    number = bixtogan_tidy(chain_untidy, sizeof chain_untidy, out, sizeof chain_untidy, &value);
+    expect(number == BIXTOGAN_DONE && value == sizeof chain && wrote(chain, sizeof chain),
+           "tidying");
+    lend();
+    number = bixtogan_tidy(chain_untidy, sizeof chain_untidy, out, sizeof chain_untidy - 1, &value);
+    expect(number == BIXTOGAN_SMALL_BUFFER && wrote_nothing(), "tidying into a small buffer");
+    length = with_edges(255, sheet);
+    number = bixtogan_tidy(sheet, length, out, length, &value);
+    expect(number == BIXTOGAN_DONE && value == length && wrote(sheet, length),
+           "tidying 255 dominance edges");
+}
+
+static void tables(void)
+{
+    static const uint8_t records[15] = {0, 1, 2, 3, 4, 2, 6, 7, 1, 8, 9, 1, 10, 11, 1};
+    uint8_t number;
+
+    lend();
+    number = bixtogan_fragments(chain, sizeof chain, out, 15, &value);
+    expect(number == BIXTOGAN_DONE && value == 5 && wrote(records, 15), "fragment table");
+    lend();
+    number = bixtogan_fragments(chain, sizeof chain, out, 14, &value);
+    expect(number == BIXTOGAN_SMALL_BUFFER && wrote_nothing(),
+           "fragment table into a small buffer");
+}
+
+static void check_cycle(const uint8_t *cycle, size_t length, int yes, const char *what)
+{
+    lend();
+    expect(bixtogan_check_cycle(forked, sizeof forked, cycle, length, &answer) == BIXTOGAN_DONE
+               && answer == yes,
+           what);
+}
+
+static void cycles(void)
+{
+    static const uint8_t cycle[8] = {0, 2, 1, 3, 3, 3, 2, 2};
+    static const uint8_t wrong_kind[8] = {0, 2, 1, 2, 3, 3, 2, 2};
+
+    check_cycle(cycle, 8, 1, "check of a cycle");
+    check_cycle(wrong_kind, 8, 0, "check of a cycle with a wrong kind");
+    check_cycle(cycle, 7, 0, "check of a cycle cut short");
+    check_cycle(cycle, 0, 0, "check of no bytes as a cycle");
+}
+
+static void check_placing(const uint8_t *placing, int answers, const char *what)
+{
+    lend();
+    expect(bixtogan_check_placing(square, sizeof square, placing, 8, &answer) == BIXTOGAN_DONE
+               && answer == answers,
+           what);
+}
+
+static void placings(void)
+{
+    static const uint8_t reading[8] = {TOP, TOP, 1, TOP, 3, TOP, 3, TOP};
+    static const uint8_t configured[8] = {TOP, TOP, 1, TOP, 3, TOP, 5, TOP};
+    static const uint8_t flat[8] = {TOP, TOP, TOP, TOP, TOP, TOP, TOP, TOP};
+    static const uint8_t first[12] = {TOP, TOP, TOP, 2, TOP, TOP, 1, TOP, 4, TOP, 5, TOP};
+
+    check_placing(reading, BIXTOGAN_SOLVED_FORM + BIXTOGAN_READING, "check of a reading");
+    check_placing(configured, BIXTOGAN_SOLVED_FORM + BIXTOGAN_CONFIGURATION,
+                  "check of a configuration");
+    check_placing(flat, 0, "check of a placing that is no solved form");
+    lend();
+    expect(bixtogan_check_placing(chain, sizeof chain, first, 12, &answer) == BIXTOGAN_DONE
+               && answer == BIXTOGAN_SOLVED_FORM + BIXTOGAN_CONFIGURATION + BIXTOGAN_READING,
+           "check of a reading that is a configuration");
+    lend();
+    expect(bixtogan_check_placing(chain, sizeof chain, first, 11, &answer) == BIXTOGAN_SMALL_BUFFER
+               && wrote_nothing(),
+           "check of a placing in a small buffer");
+}
+
+/* All eight functions refuse a sheet that is not well-formed with its number, and write nothing. */
+static void refused_by_all(const uint8_t *sheet, size_t length, int number, const char *what)
+{
+    static const uint8_t lent[BIXTOGAN_NODES_MAX];
+    uint64_t place = 5;
+
+    lend();
+    expect(bixtogan_count(sheet, length, &value) == number
+               && bixtogan_reading(sheet, length, &place, out, ROOM, &value) == number
+               && bixtogan_configuration(sheet, length, out, ROOM, &value) == number
+               && bixtogan_drawing(sheet, length, 1, out, ROOM, &value) == number
+               && bixtogan_tidy(sheet, length, out, ROOM, &value) == number
+               && bixtogan_fragments(sheet, length, out, ROOM, &value) == number
+               && bixtogan_check_cycle(sheet, length, lent, sizeof lent, &answer) == number
+               && bixtogan_check_placing(sheet, length, lent, sizeof lent, &answer) == number
+               && place == 5 && wrote_nothing(),
+           what);
+}
+
+static void refusals(void)
+{
+    static const struct {
+        const char *what;
+        int number;
+        size_t length;
+        uint8_t sheet[16];
+    } cases[] = {
+        {"no bytes", BIXTOGAN_MISSING, 0, {0}},
+        {"no end", BIXTOGAN_MISSING, 2, {1, 128}},
+        {"an unknown command", BIXTOGAN_COMMAND, 1, {5}},
+        {"a byte after the end", BIXTOGAN_COMMAND, 7, {1, 2, 2, 0, 1, 0, 0}},
+        {"1 node", BIXTOGAN_RANGE, 2, {1, 1}},
+        {"129 nodes", BIXTOGAN_RANGE, 2, {1, 129}},
+        {"a tree edge from a node to itself", BIXTOGAN_TREE, 6, {1, 2, 2, 0, 0, 0}},
+        {"tree edges in a cycle", BIXTOGAN_TREE, 9, {1, 2, 2, 0, 1, 2, 1, 0, 0}},
+        {"nodes without a tree edge", BIXTOGAN_BARE, 3, {1, 2, 0}},
+        {"a dominance edge from a root", BIXTOGAN_ENDS, 9, {1, 2, 2, 0, 1, 3, 0, 0, 0}},
+        {"a dominance edge twice", BIXTOGAN_REPEATED, 12, {1, 2, 2, 0, 1, 3, 1, 0, 3, 1, 0, 0}},
+    };
+    uint8_t sheet[BIXTOGAN_SHEET_MAX];
+    size_t i;
+
+    for (i = 0; i < LENGTH(cases); i++)
+        refused_by_all(cases[i].sheet, cases[i].length, cases[i].number, cases[i].what);
+    refused_by_all(sheet, with_edges(256, sheet), BIXTOGAN_TOO_MANY, "256 dominance edges");
+}
+
+int main(void)
+{
+    counts();
+    readings();
+    configurations();
+    drawings();
+    tidied();
+    tables();
+    cycles();
+    placings();
+    refusals();
+    printf("%d\n", passed);
+    return failed != 0;
+}
