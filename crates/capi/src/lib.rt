@@ -6,6 +6,7 @@ use counter::Place;
 use put::put_count;
 use put::put_cycle;
 use put::put_drawn;
+use put::put_next;
 use put::put_placed;
 use put::put_placing;
 use put::put_table;
@@ -21,7 +22,6 @@ pub extern "C" fn bixtogan_count(sheet: &[u8], readings: &mut u64) -> u8
     put_count(answer, readings)
 }
 
-// A refusal hands the place back as it was.
 #[no_mangle]
 pub extern "C" fn bixtogan_reading(
     sheet: &[u8],
@@ -38,10 +38,7 @@ pub extern "C" fn bixtogan_reading(
         number: *place as usize,
     };
     let next = from.next(sheet, out);
-    let answer = next.answer;
-    let moved = next.place;
-    *place = moved.number as u64;
-    put_placed(answer, pairs)
+    put_next(next, place, pairs)
 }
 
 #[no_mangle]

@@ -2,6 +2,7 @@
 use counter::Counted;
 use counter::CycleChecked;
 use counter::Drawn;
+use counter::Next;
 use counter::Placed;
 use counter::PlacingChecked;
 use fragments::Table;
@@ -72,6 +73,18 @@ pub(crate) fn put_placed(answer: Placed, pairs: &mut u64) -> u8
         }
         Placed::Refused(why) => number(why),
     }
+}
+
+// After a refusal the place handed back is the one that was taken.
+pub(crate) fn put_next(next: Next, place: &mut u64, pairs: &mut u64) -> u8
+    ensures { λ r. ⌜ r ≡ placedNumber (next .answer) ⌝ }
+    ensures { λ _. ⌜ now (place .exit) ≡ next .place .number ⌝ }
+    ensures { λ _. ⌜ now (pairs .exit) ≡ pairsOf (next .answer) (now (pairs .entry)) ⌝ }
+{
+    let answer = next.answer;
+    let moved = next.place;
+    *place = moved.number as u64;
+    put_placed(answer, pairs)
 }
 
 pub(crate) fn put_drawn(answer: Drawn, length: &mut u64) -> u8
