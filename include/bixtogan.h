@@ -20,9 +20,9 @@
  * first, the earliest in its bytes; a cycle of tree edges, 5 and 6 are looked for after the last
  * command. The other numbers come in the order in which the function lists them.
  *
- * A refusal leaves all memory of the caller as it was, with one exception: where reading and
- * configuration answer that there is no reading (9), they write a cycle that shows it, and its
- * number of pairs. Bytes past a result are left as they were.
+ * A refusal leaves all memory of the caller as it was, with one exception: where those
+ * for readings and for a configuration answer that there is no reading (9), they write a cycle that
+ * shows it, and its number of pairs. Bytes past a result are left as they were.
  *
  * The caller sees to it that
  *  - no pointer is null, not even one with the length 0;
@@ -92,7 +92,7 @@ uint8_t bixtogan_count(const uint8_t *sheet, size_t sheet_length, uint64_t *read
  * The reading after a place. *place is the number of the last reading handed out, 0 before the
  * first. The next reading fills the first n bytes of out, and *place becomes its number. So
  * calls in a row list the readings, and the call after the last is refused with 11. (Each call
- * walks from reading 1 on.)
+ * walks from reading 1 on; bixtogan_readings gives many at once.)
  *
  * out has at least 2n bytes. Where there is no reading (9), a cycle fills the first 2c of them
  * and *pairs becomes c: c pairs of a node and the kind of the edge that leads to the next
@@ -103,6 +103,17 @@ uint8_t bixtogan_count(const uint8_t *sheet, size_t sheet_length, uint64_t *read
  */
 uint8_t bixtogan_reading(const uint8_t *sheet, size_t sheet_length, uint64_t *place,
                          uint8_t *out, size_t out_length, uint64_t *pairs);
+
+/*
+ * The readings after a place, one after the other, n bytes each: as many as are left and as there
+ * is room for, all of them found in one walk. *place becomes the number of the last one, so
+ * that *place less what it was is how many they are, and a further call goes on from there. A buffer
+ * of 65,535 times n bytes holds every list. out and pairs are otherwise as for bixtogan_reading.
+ *
+ * Refusals: 1 to 8, 10, 9, 11. After any of them *place is what it was.
+ */
+uint8_t bixtogan_readings(const uint8_t *sheet, size_t sheet_length, uint64_t *place,
+                          uint8_t *out, size_t out_length, uint64_t *pairs);
 
 /*
  * A configuration, which is a solved form with no two roots under one leaf. It is made from

@@ -193,6 +193,48 @@ static void readings(void)
            "the cycle of a reading");
 }
 
+static void stretches(void)
+{
+    static const uint8_t both[24] = {
+        TOP, TOP, TOP, 2, TOP, TOP, 1, TOP, 4, TOP, 5, TOP,
+        4, TOP, TOP, TOP, TOP, TOP, 1, TOP, 2, TOP, 5, TOP,
+    };
+    uint8_t sheet[BIXTOGAN_SHEET_MAX];
+    uint64_t place = 0;
+    uint8_t number, yes = OLD_VALUE;
+
+    lend();
+    number = bixtogan_readings(chain, sizeof chain, &place, out, ROOM, &value);
+    expect(number == BIXTOGAN_DONE && place == 2 && wrote(both, 24) && value == OLD_VALUE,
+           "readings 1 and 2");
+    lend();
+    place = 1;
+    number = bixtogan_readings(chain, sizeof chain, &place, out, 24, &value);
+    expect(number == BIXTOGAN_DONE && place == 2 && wrote(both + 12, 12), "readings from 2 on");
+    lend();
+    number = bixtogan_readings(chain, sizeof chain, &place, out, ROOM, &value);
+    expect(number == BIXTOGAN_NO_SUCH_READING && place == 2 && wrote_nothing(),
+           "readings past the last");
+    place = UINT64_MAX;
+    number = bixtogan_readings(chain, sizeof chain, &place, out, ROOM, &value);
+    expect(number == BIXTOGAN_NO_SUCH_READING && place == UINT64_MAX && wrote_nothing(),
+           "readings past the largest place");
+    place = 0;
+    number = bixtogan_readings(chain, sizeof chain, &place, out, 23, &value);
+    expect(number == BIXTOGAN_SMALL_BUFFER && place == 0 && wrote_nothing(),
+           "readings into a small buffer");
+    /* 42 nodes, and one byte too few for a fourth. */
+    number = bixtogan_readings(sheet, chain_of(8, sheet), &place, out, 4 * 42 - 1, &value);
+    expect(number == BIXTOGAN_DONE && place == 3 && unwritten_past(3 * 42), "readings as they fit");
+    lend();
+    place = 1;
+    number = bixtogan_readings(loop, sizeof loop, &place, out, ROOM, &value);
+    expect(number == BIXTOGAN_NO_READING && place == 1 && value == 2 && unwritten_past(4),
+           "readings where none is");
+    expect(bixtogan_check_cycle(loop, sizeof loop, out, 4, &yes) == BIXTOGAN_DONE && yes == 1,
+           "the cycle of readings");
+}
+
 static void configurations(void)
 {
     static const uint8_t configured[8] = {TOP, TOP, 1, TOP, 3, TOP, 5, TOP};
@@ -315,7 +357,7 @@ static void placings(void)
            "check of a placing in a small buffer");
 }
 
-/* All eight functions refuse a sheet that is not well-formed with its number, and write nothing. */
+/* All functions refuse a sheet that is not well-formed with its number, and write nothing. */
 static void refused_by_all(const uint8_t *sheet, size_t length, int number, const char *what)
 {
     static const uint8_t lent[BIXTOGAN_NODES_MAX];
@@ -324,6 +366,7 @@ static void refused_by_all(const uint8_t *sheet, size_t length, int number, cons
     lend();
     expect(bixtogan_count(sheet, length, &value) == number
                && bixtogan_reading(sheet, length, &place, out, ROOM, &value) == number
+               && bixtogan_readings(sheet, length, &place, out, ROOM, &value) == number
                && bixtogan_configuration(sheet, length, out, ROOM, &value) == number
                && bixtogan_drawing(sheet, length, 1, out, ROOM, &value) == number
                && bixtogan_tidy(sheet, length, out, ROOM, &value) == number
@@ -366,6 +409,7 @@ int main(void)
 {
     counts();
     readings();
+    stretches();
     configurations();
     drawings();
     tidied();

@@ -16,7 +16,7 @@ use Rattle.fragments.specs.Table.{Tabled}
 use Rattle.fragments.specs.declared.Table.{Table}
 use Rattle.fragments.specs.declared.Table.the-variants.{Filled, Refused as TableRefused}
 use Rattle.placings.specs.declared.Answers.{Answers}
-use Rattle.counter.specs.Calls.{CountOf, ReadingOf, ConfigurationOf, DrawingOf, countNumber, placedNumber, drawnNumber}
+use Rattle.counter.specs.Calls.{CountOf, ReadingOf, StretchOf, ConfigurationOf, DrawingOf, countNumber, placedNumber, drawnNumber}
 use Rattle.counter.specs.Checks.{CycleOf, PlacingOf, cycleNumber, placingNumber, tidiedNumber, tableNumber}
 use Rattle.counter.specs.declared.Counted.{Counted}
 use Rattle.counter.specs.declared.Counted.the-variants.{Readings, Refused as CountRefused}
@@ -80,6 +80,12 @@ pub record CountTold (sheet : Outcome) (r : ℕ) (readings readings′ : ℕ) : 
 pub record ReadingTold (sheet : Outcome) (r : ℕ) (place place′ : ℕ) (out out′ : List ℕ) (pairs pairs′ : ℕ) : Type 0 where
   pub answer : Placed
   pub call : ReadingOf sheet place out answer place′ out′
+  pub number : r ≡ placedNumber answer
+  pub value : pairs′ ≡ pairsOf answer pairs
+
+pub record ReadingsTold (sheet : Outcome) (r : ℕ) (place place′ : ℕ) (out out′ : List ℕ) (pairs pairs′ : ℕ) : Type 0 where
+  pub answer : Placed
+  pub call : StretchOf sheet place out answer place′ out′
   pub number : r ≡ placedNumber answer
   pub value : pairs′ ≡ pairsOf answer pairs
 

@@ -12,7 +12,7 @@ use put::put_placing;
 use put::put_table;
 use put::put_tidied;
 ghost use Rattle.graph.specs.Sheet.{outcome};
-ghost use Rattle.capi.specs.Interface.{CountTold, ReadingTold, ConfigurationTold, DrawingTold, TidyTold, FragmentsTold, CycleTold, PlacingTold};
+ghost use Rattle.capi.specs.Interface.{CountTold, ReadingTold, ReadingsTold, ConfigurationTold, DrawingTold, TidyTold, FragmentsTold, CycleTold, PlacingTold};
 
 #[no_mangle]
 pub extern "C" fn bixtogan_count(sheet: &[u8], readings: &mut u64) -> u8
@@ -38,6 +38,25 @@ pub extern "C" fn bixtogan_reading(
         number: *place as usize,
     };
     let next = from.next(sheet, out);
+    put_next(next, place, pairs)
+}
+
+#[no_mangle]
+pub extern "C" fn bixtogan_readings(
+    sheet: &[u8],
+    place: &mut u64,
+    out: &mut [u8],
+    pairs: &mut u64,
+) -> u8
+    ensures { λ r. ⌜
+        ReadingsTold (outcome (now (sheet .entry))) r (now (place .entry)) (now (place .exit)) (now (out .entry)) (now (out .exit))
+        (now (pairs .entry)) (now (pairs .exit))
+        ⌝ }
+{
+    let from = Place {
+        number: *place as usize,
+    };
+    let next = from.fill(sheet, out);
     put_next(next, place, pairs)
 }
 

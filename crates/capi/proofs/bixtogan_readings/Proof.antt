@@ -1,0 +1,22 @@
+-- The answer is the one of the call for several readings, and the place put is the one that it hands back.
+use borrow.Author.Needs.{needs}
+use Rattle.capi.proofs.bixtogan_readings.Statement.{statement}
+use Rattle.capi.proofs.bixtogan_readings.Tie as tie
+
+fill-requires : tie.Need-fill-requires
+fill-requires c κs = search needs
+
+put-next-requires : tie.Need-put-next-requires
+put-next-requires c κs = search needs
+
+same-length : tie.Need-same-length
+same-length c = search needs
+
+returns : tie.Need-returns
+returns c =
+    let next = c .before .before .before .before .before .fill in
+    let put = c .put-next .ensures in
+    record { answer = next .result .answer; call = rw (put .1 .0) (next .ensures); number = put .0; value = put .1 .1 }
+
+pub bixtogan-readings-spec : {M : Type 1} → statement M
+bixtogan-readings-spec = tie.close (tie.spec fill-requires put-next-requires same-length returns)
