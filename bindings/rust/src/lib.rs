@@ -1,0 +1,317 @@
+//! Readings of dominance sheets.
+//!
+//! A *sheet* is a run of bytes that describes tree fragments and dominance edges between them; its *readings* are the minimal
+//! solved forms of that graph. The functions here call the proved static library; they keep no state, and nothing is asked of
+//! the bytes lent: each call tests its own input.
+//!
+//! A *placing* is n bytes, one a node: the leaf that a root hangs under, or [`TOP`] for a root on top and for a node that is no
+//! root.
+//!
+//! ```
+//! use bixtogan::{count, Count, Place};
+//!
+//! // Two nodes, a tree edge from 0 to 1.
+//! let sheet = [1, 2, 2, 0, 1, 0];
+//! assert_eq!(count(&sheet), Ok(Count::Exactly(1)));
+//!
+//! let mut place = Place::start();
+//! let mut out = [0; 4];
+//! assert_eq!(place.next(&sheet, &mut out), Ok(()));
+//! assert_eq!(out[..2], [255, 255]);
+//! assert_eq!(place.number(), 1);
+//! ```
+#![warn(missing_docs)]
+
+mod library;
+
+use std::fmt;
+
+/// The most nodes that a sheet has.
+pub const NODES: usize = 128;
+
+/// The last number that a reading is asked for by, and the largest exact count.
+pub const LAST: u64 = 65_535;
+
+/// The bytes that a drawing is lent.
+pub const DRAWING: usize = 1024;
+
+/// In a placing: a root on top, or a node that is no root.
+pub const TOP: u8 = 255;
+
+/// Why a call was refused. A number is given where its condition is the first to hold.
+#[derive(Clone, Copy, Debug, PartialEq, Eq, Hash)]
+#[repr(u8)]
+pub enum Refusal {
+    /// 1: a needed byte is missing.
+    Missing = 1,
+    /// 2: the command byte is unknown or out of place, or a byte follows the end.
+    Command,
+    /// 3: the number of nodes is outside 2 to 128, or an operand is no node.
+    Range,
+    /// 4: a tree edge joins a node with itself or gives it a second parent, or tree edges form a cycle.
+    Tree,
+    /// 5: a node has no tree edge.
+    Bare,
+    /// 6: a dominance edge doesn't go from a leaf to a root.
+    Ends,
+    /// 7: the dominance edge has stood before.
+    Repeated,
+    /// 8: it would be the 256th dominance edge.
+    TooMany,
+    /// 9: no solved form exists.
+    NoReading,
+    /// 10: a lent buffer is too small.
+    SmallBuffer,
+    /// 11: the reading wanted has number 0, or lies beyond the count or beyond 65,535.
+    NoSuchReading,
+}
+
+impl Refusal {
+    const ALL: [Refusal; 11] = [
+        Refusal::Missing,
+        Refusal::Command,
+        Refusal::Range,
+        Refusal::Tree,
+        Refusal::Bare,
+        Refusal::Ends,
+        Refusal::Repeated,
+        Refusal::TooMany,
+        Refusal::NoReading,
+        Refusal::SmallBuffer,
+        Refusal::NoSuchReading,
+    ];
+
+    /// Its number, 1 to 11.
+    ///
+    /// ```
+    /// assert_eq!(bixtogan::count(&[5]).unwrap_err().number(), 2);
+    /// ```
+    pub fn number(self) -> u8 {
+        self as u8
+    }
+
+    /// The refusal with a number.
+    pub fn of_number(number: u8) -> Option<Refusal> {
+        Refusal::ALL.get(usize::from(number).wrapping_sub(1)).copied()
+    }
+}
+
+impl fmt::Display for Refusal {
+    fn fmt(&self, f: &mut fmt::Formatter<'_>) -> fmt::Result {
+        write!(f, "refused {}", self.number())
+    }
+}
+
+impl std::error::Error for Refusal {}
+
+/// Why no placing was written.
+#[derive(Clone, Copy, Debug, PartialEq, Eq)]
+pub enum Unplaced {
+    /// There is no solved form: a simple hypernormal cycle of so many pairs fills the first bytes, two a pair: node, and the
+    /// kind of the edge to the next, 2 for tree and 3 for dominance.
+    Cycle(usize),
+    /// Nothing was written. Never [`Refusal::NoReading`].
+    Refused(Refusal),
+}
+
+impl Unplaced {
+    /// The refusal, 9 where a cycle was written.
+    pub fn refusal(self) -> Refusal {
+        match self {
+            Unplaced::Cycle(_) => Refusal::NoReading,
+            Unplaced::Refused(why) => why,
+        }
+    }
+}
+
+impl fmt::Display for Unplaced {
+    fn fmt(&self, f: &mut fmt::Formatter<'_>) -> fmt::Result {
+        self.refusal().fmt(f)
+    }
+}
+
+impl std::error::Error for Unplaced {}
+
+/// How many readings a sheet has.
+#[derive(Clone, Copy, Debug, PartialEq, Eq)]
+pub enum Count {
+    /// 1 to 65,535.
+    Exactly(u64),
+    /// More than 65,535.
+    More,
+}
+
+/// What the check of a placing says.
+#[derive(Clone, Copy, Debug, PartialEq, Eq)]
+pub struct Answers {
+    /// Fragments and placing are a forest in which each dominance edge runs downward.
+    pub solved: bool,
+    /// Besides, no leaf carries two roots.
+    pub configuration: bool,
+    /// A solved form, and none has a strictly smaller descent relation.
+    pub reading: bool,
+}
+
+/// A record of the fragment table.
+#[derive(Clone, Copy, Debug, Default, PartialEq, Eq)]
+#[repr(C)]
+pub struct Fragment {
+    /// Its root.
+    pub root: u8,
+    /// Its leaf with the lowest number.
+    pub lowest_leaf: u8,
+    /// How many leaves it has.
+    pub leaves: u8,
+}
+
+fn answered<T>(number: u8, value: T) -> Result<T, Refusal> {
+    match Refusal::of_number(number) {
+        None => Ok(value),
+        Some(why) => Err(why),
+    }
+}
+
+fn placed(number: u8, pairs: u64) -> Result<(), Unplaced> {
+    match Refusal::of_number(number) {
+        None => Ok(()),
+        Some(Refusal::NoReading) => Err(Unplaced::Cycle(pairs as usize)),
+        Some(why) => Err(Unplaced::Refused(why)),
+    }
+}
+
+/// How many readings the sheet has.
+///
+/// ```
+/// use bixtogan::{count, Refusal};
+///
+/// // The root hangs below its own leaf.
+/// assert_eq!(count(&[1, 2, 2, 0, 1, 3, 1, 0, 0]), Err(Refusal::NoReading));
+/// ```
+pub fn count(sheet: &[u8]) -> Result<Count, Refusal> {
+    let (number, readings) = library::count(sheet);
+    let count = if readings <= LAST { Count::Exactly(readings) } else { Count::More };
+    answered(number, count)
+}
+
+/// A place in the list of readings: the number of the last reading handed out.
+#[derive(Clone, Copy, Debug, PartialEq, Eq)]
+pub struct Place(u64);
+
+impl Place {
+    /// Before the first reading.
+    pub fn start() -> Place {
+        Place(0)
+    }
+
+    /// After the reading with this number; every number is a place.
+    pub fn after(number: u64) -> Place {
+        Place(number)
+    }
+
+    /// The number of the last reading handed out.
+    pub fn number(self) -> u64 {
+        self.0
+    }
+
+    /// Writes the next reading, a placing, into the first n bytes of `out`, which has at least 2n, and moves the place on. After
+    /// a refusal the place stays.
+    ///
+    /// ```
+    /// use bixtogan::{check_cycle, Place, Unplaced};
+    ///
+    /// let sheet = [1, 2, 2, 0, 1, 3, 1, 0, 0];
+    /// let mut out = [0; 4];
+    /// let answer = Place::start().next(&sheet, &mut out);
+    /// assert_eq!(answer, Err(Unplaced::Cycle(2)));
+    /// assert_eq!(check_cycle(&sheet, &out), Ok(true));
+    /// ```
+    pub fn next(&mut self, sheet: &[u8], out: &mut [u8]) -> Result<(), Unplaced> {
+        let (number, pairs) = library::reading(sheet, &mut self.0, out);
+        placed(number, pairs)
+    }
+
+    /// Writes the readings after the place one after the other, n bytes each, as many as are left and as fit into `out`, and
+    /// moves the place to the last of them; how many. One walk finds them all, where as many calls of [`Place::next`] walk from
+    /// the first reading each. The buffer has at least 2n bytes, and after a refusal the place stays.
+    ///
+    /// ```
+    /// use bixtogan::Place;
+    ///
+    /// // Two fragments that both want the third below their leaf: one of them goes below the other.
+    /// let sheet = [1, 6, 2, 0, 1, 2, 2, 3, 2, 4, 5, 3, 1, 4, 3, 3, 4, 0];
+    /// let mut out = [0; 12];
+    /// let mut place = Place::start();
+    /// assert_eq!(place.fill(&sheet, &mut out), Ok(2));
+    /// assert_eq!(out[..6], [255, 255, 1, 255, 3, 255]);
+    /// assert_eq!(out[6..], [3, 255, 255, 255, 1, 255]);
+    /// assert_eq!(place.number(), 2);
+    /// ```
+    pub fn fill(&mut self, sheet: &[u8], out: &mut [u8]) -> Result<usize, Unplaced> {
+        let before = self.0;
+        let (number, pairs) = library::readings(sheet, &mut self.0, out);
+        placed(number, pairs).map(|()| (self.0 - before) as usize)
+    }
+}
+
+/// Writes a configuration into the first n bytes of `out`, which has at least 2n: each leaf carries one root at most.
+pub fn configuration(sheet: &[u8], out: &mut [u8]) -> Result<(), Unplaced> {
+    let (number, pairs) = library::configuration(sheet, out);
+    placed(number, pairs)
+}
+
+/// Writes the drawing of the reading with this number into `out`, which has at least [`DRAWING`] bytes; its length.
+///
+/// ```
+/// let mut out = [0; bixtogan::DRAWING];
+/// let length = bixtogan::drawing(&[1, 2, 2, 0, 1, 0], 1, &mut out).unwrap();
+/// assert_eq!(&out[..length], b"0(1)");
+/// ```
+pub fn drawing(sheet: &[u8], number: u64, out: &mut [u8]) -> Result<usize, Refusal> {
+    let (refused, length) = library::drawing(sheet, number, out);
+    answered(refused, length as usize)
+}
+
+/// Writes the tidy sheet: tree edges by child, then dominance edges by leaf and root; its length.
+///
+/// ```
+/// let mut out = [0; 9];
+/// let sheet = [1, 3, 2, 0, 2, 2, 0, 1, 0];
+/// assert_eq!(bixtogan::tidy(&sheet, &mut out), Ok(9));
+/// assert_eq!(out, [1, 3, 2, 0, 1, 2, 0, 2, 0]);
+/// ```
+pub fn tidy(sheet: &[u8], out: &mut [u8]) -> Result<usize, Refusal> {
+    let (number, length) = library::tidy(sheet, out);
+    answered(number, length as usize)
+}
+
+/// Writes a record for each fragment, by ascending root; how many.
+///
+/// ```
+/// use bixtogan::{fragments, Fragment};
+///
+/// let mut table = [Fragment::default(); 1];
+/// assert_eq!(fragments(&[1, 3, 2, 0, 2, 2, 0, 1, 0], &mut table), Ok(1));
+/// assert_eq!(table[0], Fragment { root: 0, lowest_leaf: 1, leaves: 2 });
+/// ```
+pub fn fragments(sheet: &[u8], table: &mut [Fragment]) -> Result<usize, Refusal> {
+    let (number, records) = library::fragments(sheet, table);
+    answered(number, records as usize)
+}
+
+/// Whether the bytes spell a simple hypernormal cycle of the sheet.
+pub fn check_cycle(sheet: &[u8], cycle: &[u8]) -> Result<bool, Refusal> {
+    let (number, yes) = library::check_cycle(sheet, cycle);
+    answered(number, yes != 0)
+}
+
+/// Whether the first n bytes are a solved form, a configuration, a reading of the sheet.
+///
+/// ```
+/// let answers = bixtogan::check_placing(&[1, 2, 2, 0, 1, 0], &[255, 255]).unwrap();
+/// assert!(answers.solved && answers.configuration && answers.reading);
+/// ```
+pub fn check_placing(sheet: &[u8], placing: &[u8]) -> Result<Answers, Refusal> {
+    let (number, answers) = library::check_placing(sheet, placing);
+    let answers = Answers { solved: answers & 1 != 0, configuration: answers & 2 != 0, reading: answers & 4 != 0 };
+    answered(number, answers)
+}
