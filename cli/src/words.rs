@@ -1,0 +1,185 @@
+//! What each word answers.
+use crate::{dot, form};
+use bixtogan::{Count, Fragment, Place, Refusal, Unplaced, DRAWING, LAST, NODES, TOP};
+use std::fmt::Write;
+
+pub enum Failure {
+    /// The sheet or the call was refused; what to print.
+    Refused(Vec<u8>),
+    Usage,
+    Input(String),
+}
+
+pub type Answer = Result<Vec<u8>, Failure>;
+
+impl From<Refusal> for Failure {
+    fn from(why: Refusal) -> Failure {
+        Failure::Refused(format!("{why}\n").into_bytes())
+    }
+}
+
+pub fn number(word: &str) -> Result<u64, Failure> {
+    word.parse().map_err(|_| Failure::Usage)
+}
+
+pub fn file(name: &str) -> Result<String, Failure> {
+    std::fs::read_to_string(name).map_err(|why| Failure::Input(format!("{name}: {why}")))
+}
+
+/// The number of nodes, as far as the sheet has one: a sheet without is refused by every call.
+fn nodes(sheet: &[u8]) -> usize {
+    usize::from(form::commands(sheet).nodes).min(NODES)
+}
+
+/// " root:leaf" for each hung root.
+fn hung(placing: &[u8]) -> String {
+    let mut text = String::new();
+    for (root, leaf) in placing.iter().enumerate().filter(|(_, &leaf)| leaf != TOP) {
+        let _ = write!(text, " {root}:{leaf}");
+    }
+    text
+}
+
+/// A refusal, and the cycle where there is one: node and kind of edge in turn.
+fn unplaced(why: Unplaced, out: &[u8]) -> Failure {
+    let mut text = format!("{why}\n");
+    if let Unplaced::Cycle(pairs) = why {
+        let numbers: Vec<String> = out[..2 * pairs].iter().map(u8::to_string).collect();
+        let _ = writeln!(text, "cycle {}", numbers.join(" "));
+    }
+    Failure::Refused(text.into_bytes())
+}
+
+fn count_line(count: Count) -> String {
+    match count {
+        Count::Exactly(readings) => format!("readings {readings}\n"),
+        Count::More => format!("readings more than {LAST}\n"),
+    }
+}
+
+pub fn count(sheet: &[u8]) -> Answer {
+    Ok(count_line(bixtogan::count(sheet)?).into_bytes())
+}
+
+/// One walk finds all readings. Only where they are as many as can be handed out does it take a count to tell whether there are
+/// more.
+pub fn list(sheet: &[u8]) -> Answer {
+    let n = nodes(sheet);
+    let mut out = vec![0; n * LAST as usize];
+    let listed = Place::start().fill(sheet, &mut out).map_err(|why| Failure::from(why.refusal()))? as u64;
+    let mut text = count_line(if listed < LAST { Count::Exactly(listed) } else { bixtogan::count(sheet)? });
+    for (k, placing) in (1..=listed).zip(out.chunks_exact(n)) {
+        let _ = writeln!(text, "{k}{}", hung(placing));
+    }
+    Ok(text.into_bytes())
+}
+
+/// The placing of reading k; number 0 is refused as the drawing refuses it.
+fn placing_of(sheet: &[u8], k: u64) -> Result<Vec<u8>, Failure> {
+    let mut out = vec![0; 2 * NODES];
+    let mut place = Place::after(k.wrapping_sub(1));
+    place.next(sheet, &mut out).map_err(|why| unplaced(why, &out))?;
+    out.truncate(nodes(sheet));
+    Ok(out)
+}
+
+pub fn reading(sheet: &[u8], k: u64) -> Answer {
+    Ok(format!("{k}{}\n", hung(&placing_of(sheet, k)?)).into_bytes())
+}
+
+pub fn configuration(sheet: &[u8]) -> Answer {
+    let mut out = vec![0; 2 * NODES];
+    bixtogan::configuration(sheet, &mut out).map_err(|why| unplaced(why, &out))?;
+    Ok(format!("configuration{}\n", hung(&out[..nodes(sheet)])).into_bytes())
+}
+
+pub fn draw(sheet: &[u8], k: u64) -> Answer {
+    let mut out = vec![0; DRAWING];
+    let length = bixtogan::drawing(sheet, k, &mut out)?;
+    out.truncate(length);
+    out.push(b'\n');
+    Ok(out)
+}
+
+pub fn tidy(sheet: &[u8]) -> Answer {
+    let mut out = vec![0; sheet.len()];
+    let length = bixtogan::tidy(sheet, &mut out)?;
+    Ok(lines(&out[..length]))
+}
+
+pub fn fragments(sheet: &[u8]) -> Answer {
+    let mut table = [Fragment::default(); NODES / 2];
+    let records = bixtogan::fragments(sheet, &mut table)?;
+    let mut text = String::new();
+    for record in &table[..records] {
+        let _ = writeln!(text, "{} {} {}", record.root, record.lowest_leaf, record.leaves);
+    }
+    Ok(text.into_bytes())
+}
+
+fn yes(answer: bool) -> &'static str {
+    if answer {
+        "yes"
+    } else {
+        "no"
+    }
+}
+
+pub fn check_placing(sheet: &[u8], text: &str) -> Answer {
+    let mut placing = vec![TOP; nodes(sheet)];
+    for pair in text.split_whitespace() {
+        let wrong = || Failure::Input(format!("{pair}: wanted ROOT:LEAF, with numbers of nodes"));
+        let (root, leaf) = pair.split_once(':').ok_or_else(wrong)?;
+        let root: usize = root.parse().map_err(|_| wrong())?;
+        *placing.get_mut(root).ok_or_else(wrong)? = leaf.parse().map_err(|_| wrong())?;
+    }
+    let answers = bixtogan::check_placing(sheet, &placing)?;
+    let text = format!(
+        "solved form {}\nconfiguration {}\nreading {}\n",
+        yes(answers.solved),
+        yes(answers.configuration),
+        yes(answers.reading)
+    );
+    Ok(text.into_bytes())
+}
+
+pub fn check_cycle(sheet: &[u8], text: &str) -> Answer {
+    let numbers: Result<Vec<u8>, _> = text.split_whitespace().map(str::parse).collect();
+    let cycle = numbers
+        .map_err(|_| Failure::Input("a cycle is numbers up to 255, node and kind of edge in turn".to_string()))?;
+    Ok(format!("{}\n", yes(bixtogan::check_cycle(sheet, &cycle)?)).into_bytes())
+}
+
+/// The picture of a sheet that is read; where it has no reading, its cycle is marked.
+pub fn dot(sheet: &[u8]) -> Answer {
+    let mut out = vec![0; 2 * NODES];
+    let cycle = match Place::start().next(sheet, &mut out) {
+        Ok(()) => &[],
+        Err(Unplaced::Cycle(pairs)) => &out[..2 * pairs],
+        Err(Unplaced::Refused(why)) => return Err(why.into()),
+    };
+    Ok(dot::sheet(&form::commands(sheet), cycle).into_bytes())
+}
+
+pub fn dot_reading(sheet: &[u8], k: u64) -> Answer {
+    let placing = placing_of(sheet, k)?;
+    Ok(dot::placing(&form::commands(sheet), &placing).into_bytes())
+}
+
+fn lines(sheet: &[u8]) -> Vec<u8> {
+    form::commands(sheet).lines.iter().flat_map(|line| [line.as_bytes(), b"\n"].concat()).collect()
+}
+
+/// What can be read of the sheet, and the refusal after it where it is not well-formed.
+pub fn decode(sheet: &[u8]) -> Answer {
+    let text = lines(sheet);
+    match bixtogan::check_cycle(sheet, &[]) {
+        Ok(_) => Ok(text),
+        Err(why) => Err(Failure::Refused([text, format!("# {why}\n").into_bytes()].concat())),
+    }
+}
+
+pub fn encode(text: &[u8]) -> Answer {
+    let text = std::str::from_utf8(text).map_err(|_| Failure::Input("the text is not UTF-8".to_string()))?;
+    form::encode(text).map_err(Failure::Input)
+}
