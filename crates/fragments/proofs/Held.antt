@@ -52,7 +52,7 @@ flat-length (f ∷ fs) =
     omega arith
 
 -- as many records as roots
-fragments-length : (g : Graph) → length (fragments g) ≡ count (g .nodes) (root g)
+pub fragments-length : (g : Graph) → length (fragments g) ≡ count (g .nodes) (root g)
 unfolding fragments
 fragments-length g = length-spread 1 (g .nodes) (root g) (λ r. fragment g r ∷ []) (λ r. refl) ∙ one-mul (count (g .nodes) (root g))
 

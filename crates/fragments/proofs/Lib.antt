@@ -1,3 +1,4 @@
 pub mod Owned
 pub mod Held
 pub mod Answers
+pub mod Storing

@@ -1,2 +1,3 @@
 pub mod Owner
 pub mod Table
+pub mod Records

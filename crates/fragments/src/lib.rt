@@ -1,4 +1,6 @@
 // The fragment table of a sheet.
+pub mod records;
+
 use graph::Refusal;
 use nodeset::NodeSet;
 use sheet::judge::Verdict;
