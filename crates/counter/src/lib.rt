@@ -3,7 +3,10 @@ mod tables;
 
 use cycles::check;
 use fragments::Table;
+use fragments::records::prepare;
+use fragments::records::record;
 use graph::Count;
+use graph::Fragment;
 use graph::Refusal;
 use placings::Answers;
 use sheet::judge::Verdict;
@@ -19,6 +22,7 @@ ghost use mathlib.Core.Path.{_≡_};
 ghost use Rattle.graph.specs.Sheet.{outcome};
 ghost use Rattle.tidy.specs.Tidy.{Tidies};
 ghost use Rattle.fragments.specs.Table.{Tabled};
+ghost use Rattle.fragments.specs.Records.{Recorded};
 ghost use Rattle.counter.specs.Calls.{CountOf, ReadingOf, StretchOf, ConfigurationOf, DrawingOf};
 ghost use Rattle.counter.specs.Checks.{CycleOf, PlacingOf};
 
@@ -174,6 +178,19 @@ pub fn fragment_table(sheet: &[u8], out: &mut [u8]) -> Table
     ensures { λ r. ⌜ Tabled (outcome (now (sheet .entry))) r (now (out .entry)) (now (out .exit)) ⌝ }
 {
     fragments::fragment_table(sheet, out)
+}
+
+// The same as records, into a lent slice of them. Later records, and in a refusal all, stay unwritten.
+pub fn fragments(sheet: &[u8], table: &mut [Fragment]) -> Table
+    ensures { λ r. ⌜ Recorded (outcome (now (sheet .entry))) r (now (table .entry)) (now (table .exit)) ⌝ }
+{
+    let records = prepare(sheet, table.len());
+    let mut k = 0;
+    while k < records.count {
+        table[k] = record(records, k);
+        k = k + 1;
+    }
+    records.answer
 }
 
 // Whether the bytes spell a simple hypernormal cycle of the sheet.

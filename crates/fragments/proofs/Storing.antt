@@ -102,7 +102,7 @@ module _ (old new : List ℕ) (long : length old ≡ 384) (room : ℕ) where
 
 -- the table with the first k records stored, one after the other
 
-pub stores : List ℕ → List Fragment → ℕ → List Fragment
+unfoldable pub stores : List ℕ → List Fragment → ℕ → List Fragment
 stores bs old zero = old
 stores bs old (suc k) = set (stores bs old k) k (recordAt bs k)
 
