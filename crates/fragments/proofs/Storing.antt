@@ -1,6 +1,6 @@
 -- The records that are read back from the bytes of the table, and a table with them stored one after the other.
 use Prim.Native.Nat.{ℕ, zero, suc, _+_, _*_, _≤_, _<_, zero-le}
-use mathlib.Core.Path.{_≡_, refl, sym, _∙_, ap}
+use mathlib.Core.Path.{_≡_, refl, _∙_, ap}
 use mathlib.Core.List.{List, [], _∷_, _++_}
 use mathlib.Core.Bool.{true, false}
 use native.Mathlib.Omega.{arith}
@@ -28,6 +28,7 @@ use Rattle.fragments.proofs.Held.{fragments-length}
 
 -- what the bytes hold
 
+-- record i of the bytes of fs is the i-th of fs
 record-of : (fs : List Fragment) (rest : List ℕ) (i : ℕ) (d : Fragment) → i < length fs → recordAt (flat fs ++ rest) i ≡ getD fs i d
 unfolding flat recordAt
 record-of [] rest i d h = absurd (omega (arith, h))
@@ -93,12 +94,13 @@ module _ (old new : List ℕ) (long : length old ≡ 384) (room : ℕ) where
           let less : ltb room (length (fragments (f .0))) ≡ true = lt-ltb room (length (fragments (f .0))) (rw (f .2) at h) in
           rw (f .1) (record { answer = rw less; holds = rw less; few = zero-le })
 
-      pub prepares-filled : k ≤ room → Prepares (outcome bs) room (record { answer = Filled k; count = k; bytes = new })
-      prepares-filled h =
+      -- as many are stored as there are fragments
+      pub prepares-filled : (count : ℕ) → count ≡ k → k ≤ room → Prepares (outcome bs) room (record { answer = Filled k; count = count; bytes = new })
+      prepares-filled count c h =
           let f = filled-as (outcome bs) (few-fragments bs) k t in
           let few : k ≤ 128 = rw (f .2) (few-fragments bs (f .0) (f .1)) in
           let fits : ltb room (length (fragments (f .0))) ≡ false = le-ltb room (length (fragments (f .0))) (rw (f .2) at h) in
-          rw (f .1) (record { answer = rw fits (ap Filled (f .2)); holds = rw fits (f .3); few = few })
+          rw (c, f .1) (record { answer = rw fits (ap Filled (f .2)); holds = rw fits (f .3); few = few })
 
 -- the table with the first k records stored, one after the other
 
@@ -125,13 +127,13 @@ stored-fits (accepted g) room =
     (λ (e : ltb room (length (fragments g)) ≡ true). rw e zero-le)
     (λ (e : ltb room (length (fragments g)) ≡ false). rw e (ltb-false room (length (fragments g)) e))
 
+-- stores of the records leave what the answer says
 stored-is : (o : Outcome) (old : List Fragment) → sets old 0 (stored o (length old)) ≡ recordsOf o old
 stored-is (refused why) old = refl
 stored-is (accepted g) old =
     by-bool (ltb (length old) (length (fragments g)))
     (λ (e : ltb (length old) (length (fragments g)) ≡ true). rw e refl)
     (λ (e : ltb (length old) (length (fragments g)) ≡ false).
-    let n = length (fragments g) in
     let first : 0 + length (fragments g) ≡ length (fragments g) = omega arith in
     rw e (sets-eq (fragments g) old 0 (rw first (ltb-false (length old) (length (fragments g)) e)) ∙ rw first refl))
 

@@ -46,7 +46,7 @@ returns-3 c =
     let f = c .before .before .before .before .before in
     let a = c .before .before .before .before .before .before .before .before .args in
     let v = c .before .before .answer2 .given in
-    prepares-filled zeros _ long (a .room) (now (a .sheet)) (f .fragment-table .result) (f .fragment-table .ensures) (v .0 .0) (v .1) (c .if1 .left)
+    prepares-filled zeros _ long (a .room) (now (a .sheet)) (f .fragment-table .result) (f .fragment-table .ensures) (v .0 .0) (v .1) _ (search needs) (c .if1 .left)
 
 pub prepare-spec : {M : Type 1} → statement M
 prepare-spec =
