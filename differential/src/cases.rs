@@ -1,0 +1,222 @@
+//! The cases of document 01, the counts of Section 9, and the ways of this crate against each other.
+use crate::graph::{Edge, Graph};
+use crate::listing::{all, first, Leave};
+use crate::placing::{check, Answers, TOP};
+use crate::random::Random;
+use crate::sheet::{read, table, tidy, write};
+use crate::sheets::{chain, random_fork, random_graph, side_by_side, untidy};
+use crate::{brute, cycle, drawing, fragments, hypernormal, rule1};
+
+fn graph(nodes: usize, tree: &[Edge], dominance: &[Edge]) -> Graph {
+    read(&write(nodes, tree, dominance)).unwrap()
+}
+
+/// " root:leaf" for each hung root, as the printed list has them.
+fn line(placing: &[u8]) -> String {
+    let hung = placing.iter().enumerate().filter(|(_, &leaf)| leaf != TOP);
+    hung.map(|(root, leaf)| format!(" {root}:{leaf}")).collect()
+}
+
+fn lines(graph: &Graph) -> Vec<String> {
+    all(graph).iter().map(|placing| line(placing)).collect()
+}
+
+fn square() -> Graph {
+    graph(8, &[(0, 1), (2, 3), (4, 5), (6, 7)], &[(1, 4), (1, 6), (3, 4), (3, 6)])
+}
+
+fn no_reading(graph: &Graph) -> bool {
+    all(graph).is_empty() && !fragments::solvable(graph, &graph.dominance) && hypernormal::has_cycle(graph)
+}
+
+#[test]
+fn short_sheets() {
+    assert_eq!(read(&[]), Err(1));
+    assert_eq!(read(&[0x05]), Err(2));
+    assert_eq!(read(&[0x01, 0x01]), Err(3));
+    assert_eq!(read(&[0x01, 0x81]), Err(3));
+    assert_eq!(read(&[0x01, 0x80]), Err(1));
+    assert_eq!(read(&[0x01, 0x02, 0x00]), Err(5));
+    assert_eq!(lines(&read(&[0x01, 0x02, 0x02, 0x00, 0x01, 0x00]).unwrap()), [""]);
+}
+
+#[test]
+fn refusals_within_a_command_come_in_order() {
+    assert_eq!(read(&[1]), Err(1));
+    assert_eq!(read(&[0, 0]), Err(2));
+    assert_eq!(read(&[1, 2, 1]), Err(2));
+    assert_eq!(read(&[1, 2, 4, 9]), Err(2));
+    assert_eq!(read(&[1, 2, 2, 9]), Err(1));
+    assert_eq!(read(&[1, 2, 2, 9, 9]), Err(3));
+    assert_eq!(read(&[1, 2, 2, 1, 1]), Err(4));
+    assert_eq!(read(&[1, 3, 2, 0, 1, 2, 2, 1]), Err(4));
+    assert_eq!(read(&[1, 2, 3, 1, 0, 3, 1, 0]), Err(7));
+    assert_eq!(read(&[1, 2, 2, 0, 1, 0, 0]), Err(2));
+}
+
+#[test]
+fn the_tests_of_the_whole_come_in_order() {
+    assert_eq!(read(&[1, 3, 2, 0, 1, 2, 1, 0, 3, 1, 0, 0]), Err(4));
+    assert_eq!(read(&[1, 3, 2, 0, 1, 3, 0, 1, 0]), Err(5));
+    assert_eq!(read(&[1, 2, 2, 0, 1, 3, 0, 0, 0]), Err(6));
+    assert_eq!(read(&[1, 2, 2, 0, 1, 3, 1, 1, 0]), Err(6));
+}
+
+#[test]
+fn a_root_under_its_own_leaf() {
+    let graph = graph(2, &[(0, 1)], &[(1, 0)]);
+    assert!(no_reading(&graph));
+    assert!(cycle::check(&graph, &[0, 2, 1, 3]));
+}
+
+#[test]
+fn a_root_under_two_leaves_of_one_fragment() {
+    let graph = graph(5, &[(0, 1), (0, 2), (3, 4)], &[(1, 3), (2, 3)]);
+    assert!(no_reading(&graph));
+    assert!(cycle::check(&graph, &[0, 2, 1, 3, 3, 3, 2, 2]));
+}
+
+#[test]
+fn an_undirected_cycle_is_no_refusal() {
+    let square = square();
+    assert_eq!(lines(&square), [" 2:1 4:3 6:3", " 0:3 4:1 6:1"]);
+    assert_eq!(line(&rule1::configuration(&square, &all(&square)[0])), " 2:1 4:3 6:5");
+    assert!(!hypernormal::has_cycle(&square));
+    assert!(!cycle::check(&square, &[1, 3, 4, 3, 3, 3, 6, 3]));
+}
+
+#[test]
+fn the_chain_of_two() {
+    let bytes = chain(2);
+    let tree = [(0, 1), (0, 2), (3, 4), (3, 5), (6, 7), (8, 9), (10, 11)];
+    assert_eq!(bytes, write(12, &tree, &[(1, 6), (2, 8), (4, 8), (5, 10)]));
+    let graph = read(&bytes).unwrap();
+    assert_eq!(lines(&graph), [" 3:2 6:1 8:4 10:5", " 0:4 6:1 8:2 10:5"]);
+    assert_eq!(
+        drawing::drawing(&graph, &all(&graph)[0]),
+        "0(1[6(7)],2[3(4[8(9)],5[10(11)])])"
+    );
+    assert_eq!(table(&graph), [[0, 1, 2], [3, 4, 2], [6, 7, 1], [8, 9, 1], [10, 11, 1]]);
+}
+
+#[test]
+fn dominance_edges_up_to_255_pass() {
+    // 128 nodes in 16 fragments of one root and 7 leaves.
+    let tree: Vec<Edge> = (0..128)
+        .filter(|node| node % 8 != 0)
+        .map(|node| (node - node % 8, node))
+        .collect();
+    let dominance: Vec<Edge> = tree
+        .iter()
+        .flat_map(|&(_, leaf)| (0..16).map(move |i| (leaf, 8 * i)))
+        .collect();
+    assert_eq!(
+        read(&write(128, &tree, &dominance[..255])).unwrap().dominance.len(),
+        255
+    );
+    assert_eq!(read(&write(128, &tree, &dominance[..256])), Err(8));
+    let mut repeated = dominance[..255].to_vec();
+    repeated.push(dominance[7]);
+    assert_eq!(read(&write(128, &tree, &repeated)), Err(7));
+}
+
+#[test]
+fn chains_have_as_many_readings_as_section_9_prints() {
+    for (length, readings) in (2..).zip([2, 5, 14, 42, 132, 429, 1430]) {
+        let graph = read(&chain(length)).unwrap();
+        assert_eq!(all(&graph).len(), readings);
+        assert_eq!(fragments::count(&graph, 1000), Some(readings as u64));
+    }
+}
+
+#[test]
+fn forks_have_as_many_readings_as_orders() {
+    let mut random = Random::new(3);
+    for (fragments, readings) in (1..).zip([1, 2, 6, 24, 120, 720]) {
+        let graph = random_fork(&mut random, fragments);
+        assert_eq!(all(&graph).len(), readings);
+    }
+}
+
+#[test]
+fn a_sheet_beside_another_multiplies_the_readings() {
+    let graph = side_by_side(&[read(&chain(3)).unwrap(), square(), read(&chain(2)).unwrap()]);
+    assert_eq!(read(&tidy(&graph)).unwrap(), graph);
+    assert_eq!(all(&graph).len(), 20);
+    assert_eq!(fragments::count(&graph, 1000), Some(20));
+}
+
+#[test]
+fn tidying_twice_is_tidying_once() {
+    let mut random = Random::new(4);
+    for _ in 0..200 {
+        let graph = random_graph(&mut random, 128);
+        let bytes = untidy(&mut random, &graph);
+        assert_eq!(read(&bytes).as_ref(), Ok(&graph));
+        assert_eq!(read(&tidy(&graph)).as_ref(), Ok(&graph));
+    }
+}
+
+/// Definitions taken as they stand, on all placings of tiny sheets, against the recursion and the guided check.
+#[test]
+fn brute_force_agrees() {
+    let mut random = Random::new(5);
+    let mut seen = [0, 0];
+    for _ in 0..600 {
+        let graph = random_graph(&mut random, 9);
+        if brute::placings(&graph) > 2500 {
+            continue;
+        }
+        let solved = brute::solved_forms(&graph);
+        let mut minimal: Vec<&[u8]> = brute::minimal(&solved).iter().map(|form| &form.placing[..]).collect();
+        let listed = all(&graph);
+        let mut sorted: Vec<&[u8]> = listed.iter().map(|placing| &placing[..]).collect();
+        minimal.sort_unstable();
+        sorted.sort_unstable();
+        assert_eq!(sorted, minimal);
+        assert_eq!(fragments::count(&graph, 1000), Some(listed.len() as u64));
+        assert_eq!(fragments::solvable(&graph, &graph.dominance), !solved.is_empty());
+        assert_eq!(hypernormal::has_cycle(&graph), solved.is_empty());
+        for form in &solved {
+            let answers = check(&graph, &form.placing);
+            assert_eq!(
+                (answers.solved, answers.reading),
+                (true, listed.contains(&form.placing))
+            );
+        }
+        seen[usize::from(solved.is_empty())] += 1;
+    }
+    assert!(seen[0] > 50 && seen[1] > 50, "{seen:?}");
+}
+
+/// Section 8's recursion lists what Section 5's does, and the three tests of solvability agree.
+#[test]
+fn the_ways_agree_on_larger_sheets() {
+    let mut random = Random::new(6);
+    let mut compared = 0;
+    for _ in 0..300 {
+        let graph = random_graph(&mut random, 50);
+        let solvable = fragments::solvable(&graph, &graph.dominance);
+        assert_eq!(hypernormal::has_cycle(&graph), !solvable);
+        let Ok(plain) = first(&graph, 200, Leave::Cyclic, 2000) else {
+            continue;
+        };
+        assert_eq!(first(&graph, 200, Leave::Unsolvable, 2000), Ok(plain.clone()));
+        assert_eq!(plain.is_empty(), !solvable);
+        if plain.len() < 200 {
+            assert_eq!(fragments::count(&graph, 5000), Some(plain.len() as u64));
+        }
+        for placing in plain.iter().take(20) {
+            let configuration = rule1::configuration(&graph, placing);
+            let answers = Answers {
+                solved: true,
+                configuration: crate::placing::is_matching(placing),
+                reading: true,
+            };
+            assert_eq!(check(&graph, placing), answers);
+            assert!(check(&graph, &configuration).configuration);
+        }
+        compared += 1;
+    }
+    assert!(compared > 100, "{compared}");
+}

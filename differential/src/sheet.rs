@@ -1,0 +1,146 @@
+//! Sheets: reading them with refusals 1 to 8, writing them, the tidy form, the table of fragments.
+use crate::graph::{Edge, Graph, Node, NODES};
+use crate::Refused;
+
+const END: u8 = 0;
+const COUNT: u8 = 1;
+const TREE: u8 = 2;
+const DOMINANCE: u8 = 3;
+
+const MOST_DOMINANCE: usize = 255;
+
+/// What is known after some commands.
+struct Commands {
+    parent: Vec<Option<Node>>,
+    dominance: Vec<Edge>,
+}
+
+/// The next byte, or 1.
+fn byte(rest: &mut &[u8]) -> Result<u8, Refused> {
+    let (&first, after) = rest.split_first().ok_or(1)?;
+    *rest = after;
+    Ok(first)
+}
+
+impl Commands {
+    /// The two operands of an edge: 1 if one is missing, 3 if one is no node.
+    fn edge(&self, rest: &mut &[u8]) -> Result<Edge, Refused> {
+        let from = usize::from(byte(rest)?);
+        let to = usize::from(byte(rest)?);
+        if from >= self.parent.len() || to >= self.parent.len() {
+            return Err(3);
+        }
+        Ok((from, to))
+    }
+
+    fn add_tree(&mut self, (parent, child): Edge) -> Result<(), Refused> {
+        if parent == child || self.parent[child].is_some() {
+            return Err(4);
+        }
+        self.parent[child] = Some(parent);
+        Ok(())
+    }
+
+    fn add_dominance(&mut self, edge: Edge) -> Result<(), Refused> {
+        if self.dominance.contains(&edge) {
+            return Err(7);
+        }
+        if self.dominance.len() == MOST_DOMINANCE {
+            return Err(8);
+        }
+        self.dominance.push(edge);
+        Ok(())
+    }
+
+    /// Whether rising from the node comes to no end.
+    fn rises_forever(&self, node: Node) -> bool {
+        let mut at = node;
+        for _ in 0..=self.parent.len() {
+            match self.parent[at] {
+                None => return false,
+                Some(parent) => at = parent,
+            }
+        }
+        true
+    }
+
+    /// The tests of the whole, in the document's order.
+    fn graph(mut self) -> Result<Graph, Refused> {
+        if (0..self.parent.len()).any(|node| self.rises_forever(node)) {
+            return Err(4);
+        }
+        self.dominance.sort_unstable();
+        let graph = Graph {
+            parent: self.parent,
+            dominance: self.dominance,
+        };
+        if (0..graph.nodes()).any(|node| graph.is_root(node) && graph.is_leaf(node)) {
+            return Err(5);
+        }
+        if graph
+            .dominance
+            .iter()
+            .any(|&(leaf, root)| !graph.is_leaf(leaf) || !graph.is_root(root))
+        {
+            return Err(6);
+        }
+        Ok(graph)
+    }
+}
+
+/// The graph of a well-formed sheet; else its refusal, 1 to 8.
+pub fn read(bytes: &[u8]) -> Result<Graph, Refused> {
+    let mut rest = bytes;
+    if byte(&mut rest)? != COUNT {
+        return Err(2);
+    }
+    let nodes = usize::from(byte(&mut rest)?);
+    if !(2..=NODES).contains(&nodes) {
+        return Err(3);
+    }
+    let mut commands = Commands {
+        parent: vec![None; nodes],
+        dominance: Vec::new(),
+    };
+    loop {
+        match byte(&mut rest)? {
+            END if rest.is_empty() => return commands.graph(),
+            TREE => {
+                let edge = commands.edge(&mut rest)?;
+                commands.add_tree(edge)?;
+            }
+            DOMINANCE => {
+                let edge = commands.edge(&mut rest)?;
+                commands.add_dominance(edge)?;
+            }
+            _ => return Err(2),
+        }
+    }
+}
+
+/// The sheet with these commands in this order.
+pub fn write(nodes: usize, tree: &[Edge], dominance: &[Edge]) -> Vec<u8> {
+    let mut bytes = vec![COUNT, nodes as u8];
+    for (kind, edges) in [(TREE, tree), (DOMINANCE, dominance)] {
+        for &(from, to) in edges {
+            bytes.extend([kind, from as u8, to as u8]);
+        }
+    }
+    bytes.push(END);
+    bytes
+}
+
+/// The tidy sheet: tree edges by child, then dominance edges by leaf and root.
+pub fn tidy(graph: &Graph) -> Vec<u8> {
+    let tree: Vec<Edge> = graph.tree().collect();
+    write(graph.nodes(), &tree, &graph.dominance)
+}
+
+/// Root, lowest leaf and number of leaves of each fragment, by ascending root.
+pub fn table(graph: &Graph) -> Vec<[u8; 3]> {
+    let record = |root| {
+        let leaves = graph.leaves_of(root);
+        [root as u8, leaves[0] as u8, leaves.len() as u8]
+    };
+    graph.roots().into_iter().map(record).collect()
+}
