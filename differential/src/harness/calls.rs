@@ -1,0 +1,201 @@
+//! One function for each call: it is made, and its answer, the place and every lent byte are compared.
+use super::difference::{hex, Difference};
+use super::known::{Known, Placed, Total};
+use super::lent::{Lent, LentTable};
+use bixtogan::{Count, Place, Refusal, Unplaced};
+use differential::placing::Answers;
+use differential::random::Random;
+use differential::{cycle, Refused};
+use std::fmt::Debug;
+
+pub struct Caller<'a> {
+    pub known: &'a Known,
+    pub random: &'a mut Random,
+    pub sheet: Lent,
+    /// How many calls were compared.
+    pub calls: u64,
+}
+
+type Compared = Result<(), Difference>;
+
+/// What a call did to its buffer, and what is wanted.
+struct Seen<'a> {
+    lent: &'a Lent,
+    answer: Result<(), Unplaced>,
+}
+
+impl<'a> Caller<'a> {
+    pub fn new(known: &'a Known, random: &'a mut Random) -> Caller<'a> {
+        let sheet = Lent::of(random, &known.bytes);
+        Caller {
+            known,
+            random,
+            sheet,
+            calls: 0,
+        }
+    }
+
+    /// Counts a call, and tells where it went wrong.
+    fn told(&mut self, right: bool, call: &str, wanted: impl Debug, given: impl Debug) -> Compared {
+        self.calls += 1;
+        let stray = !self.sheet.is_untouched();
+        if right && !stray {
+            return Ok(());
+        }
+        let written = if stray { ", and the sheet was written" } else { "" };
+        Err(Difference {
+            sheet: self.known.bytes.clone(),
+            call: call.to_string(),
+            wanted: format!("{wanted:?}"),
+            given: format!("{given:?}{written}"),
+        })
+    }
+
+    pub fn count(&mut self) -> Compared {
+        let Some(wanted) = self.known.count() else {
+            return Ok(());
+        };
+        let given = bixtogan::count(self.sheet.lend())
+            .map_err(Refusal::number)
+            .map(|count| match count {
+                Count::Exactly(count) => Total::Exactly(count),
+                Count::More => Total::More,
+            });
+        self.told(given == wanted, "count", wanted, given)
+    }
+
+    /// Whether buffer and answer are as wanted. Which cycle is written is open.
+    fn is_placed(&self, wanted: &Placed, seen: &Seen) -> bool {
+        match (wanted, seen.answer) {
+            (Placed::Done(placing), Ok(())) => seen.lent.holds(placing),
+            (Placed::Refused(number), Err(Unplaced::Refused(why))) => {
+                why.number() == *number && seen.lent.is_untouched()
+            }
+            (Placed::Cycle, Err(Unplaced::Cycle(pairs))) => {
+                match (seen.lent.lend().get(..2 * pairs), &self.known.facts) {
+                    (Some(bytes), Ok(facts)) => cycle::check(&facts.graph, bytes) && seen.lent.holds(bytes),
+                    _ => false,
+                }
+            }
+            _ => false,
+        }
+    }
+
+    /// The next reading after a place: the place handed back.
+    pub fn reading(&mut self, place: u64, room: usize) -> Result<u64, Difference> {
+        let Some(wanted) = self.known.reading(place, room) else {
+            return Ok(place);
+        };
+        let mut lent = Lent::new(self.random, room);
+        let mut moved = Place::after(place);
+        let answer = moved.next(self.sheet.lend(), lent.lend_mut());
+        let to = if matches!(wanted, Placed::Done(_)) {
+            place + 1
+        } else {
+            place
+        };
+        let right = self.is_placed(&wanted, &Seen { lent: &lent, answer }) && moved.number() == to;
+        let call = format!("reading after place {place}, {room} bytes lent");
+        let given = (answer, moved.number(), hex(lent.lend()));
+        self.told(right, &call, (wanted, to), given)?;
+        Ok(to)
+    }
+
+    /// The configuration; what was written.
+    pub fn configuration(&mut self, room: usize) -> Result<Vec<u8>, Difference> {
+        let Some(wanted) = self.known.configuration(room) else {
+            return Ok(Vec::new());
+        };
+        let mut lent = Lent::new(self.random, room);
+        let answer = bixtogan::configuration(self.sheet.lend(), lent.lend_mut());
+        let right = self.is_placed(&wanted, &Seen { lent: &lent, answer });
+        let call = format!("configuration, {room} bytes lent");
+        self.told(right, &call, wanted, (answer, hex(lent.lend())))?;
+        Ok(match answer {
+            Ok(()) => lent.lend()[..room / 2].to_vec(),
+            Err(Unplaced::Cycle(pairs)) => lent.lend()[..2 * pairs].to_vec(),
+            Err(_) => Vec::new(),
+        })
+    }
+
+    /// Whether a call that hands back a length wrote as many bytes, and those.
+    fn is_written(lent: &Lent, wanted: Result<&[u8], Refused>, given: Result<usize, Refused>) -> bool {
+        match (wanted, given) {
+            (Ok(bytes), Ok(length)) => bytes.len() == length && lent.holds(bytes),
+            (Err(number), Err(refused)) => number == refused && lent.is_untouched(),
+            _ => false,
+        }
+    }
+
+    pub fn drawing(&mut self, number: u64, room: usize) -> Compared {
+        let Some(wanted) = self.known.drawing(number, room) else {
+            return Ok(());
+        };
+        let mut lent = Lent::new(self.random, room);
+        let given = bixtogan::drawing(self.sheet.lend(), number, lent.lend_mut()).map_err(Refusal::number);
+        let bytes = wanted.as_ref().map(|text| text.as_bytes()).map_err(|&refused| refused);
+        let right = Self::is_written(&lent, bytes, given);
+        let text = String::from_utf8_lossy(&lent.lend()[..given.unwrap_or(0).min(room)]).into_owned();
+        self.told(
+            right,
+            &format!("drawing of reading {number}, {room} bytes lent"),
+            wanted,
+            (given, text),
+        )
+    }
+
+    pub fn tidy(&mut self, room: usize) -> Compared {
+        let wanted = self.known.tidy(room);
+        let mut lent = Lent::new(self.random, room);
+        let given = bixtogan::tidy(self.sheet.lend(), lent.lend_mut()).map_err(Refusal::number);
+        let right = Self::is_written(&lent, wanted, given);
+        let call = format!("tidy, {room} bytes lent");
+        self.told(right, &call, wanted.map(hex), (given, hex(lent.lend())))
+    }
+
+    pub fn fragments(&mut self, records: usize) -> Compared {
+        let wanted = self.known.table(records);
+        let mut lent = LentTable::new(self.random, records);
+        let given = bixtogan::fragments(self.sheet.lend(), lent.lend_mut()).map_err(Refusal::number);
+        let right = match (wanted, given) {
+            (Ok(table), Ok(length)) => table.len() == length && lent.holds(table),
+            (Err(number), Err(refused)) => number == refused && lent.holds(&[]),
+            _ => false,
+        };
+        let call = format!("fragments, {records} records lent");
+        self.told(right, &call, wanted, (given, lent.lend_mut()))
+    }
+
+    pub fn check_cycle(&mut self, bytes: &[u8]) -> Compared {
+        let wanted = self.known.check_cycle(bytes);
+        let lent = Lent::of(self.random, bytes);
+        let given = bixtogan::check_cycle(self.sheet.lend(), lent.lend()).map_err(Refusal::number);
+        let right = given == wanted && lent.is_untouched();
+        self.told(right, &format!("check of the cycle {bytes:?}"), wanted, given)
+    }
+
+    /// With the answers that are wanted: the definitions may have given them in another way.
+    pub fn check_placing_for(&mut self, bytes: &[u8], wanted: Result<Answers, Refused>) -> Compared {
+        let lent = Lent::of(self.random, bytes);
+        let given = bixtogan::check_placing(self.sheet.lend(), lent.lend())
+            .map_err(Refusal::number)
+            .map(|answers| {
+                let bixtogan::Answers {
+                    solved,
+                    configuration,
+                    reading,
+                } = answers;
+                Answers {
+                    solved,
+                    configuration,
+                    reading,
+                }
+            });
+        let right = given == wanted && lent.is_untouched();
+        self.told(right, &format!("check of the placing {bytes:?}"), wanted, given)
+    }
+
+    pub fn check_placing(&mut self, bytes: &[u8]) -> Compared {
+        self.check_placing_for(bytes, self.known.check_placing(bytes))
+    }
+}

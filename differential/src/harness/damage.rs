@@ -1,0 +1,69 @@
+//! Damaged sheets.
+use differential::random::Random;
+
+/// The sheet with one thing wrong, or right by chance.
+pub fn damaged(random: &mut Random, sheet: &[u8]) -> Vec<u8> {
+    let mut bytes = sheet.to_vec();
+    let commands = (sheet.len() - 3) / 3;
+    let at = random.below(bytes.len());
+    match random.below(10) {
+        0 => bytes[at] ^= 1 << random.below(8),
+        1 => bytes[at] = random.byte(),
+        2 => bytes[at] = random.byte() % 6,
+        3 => bytes.truncate(at),
+        4 => bytes.extend(
+            (0..random.between(1, 5))
+                .map(|_| random.byte() % 4)
+                .collect::<Vec<u8>>(),
+        ),
+        5 => bytes.insert(at, random.byte() % 4),
+        6 => drop(bytes.remove(at)),
+        7 => {
+            bytes[1] = random.pick(&[
+                0,
+                1,
+                2,
+                127,
+                128,
+                129,
+                255,
+                bytes[1].wrapping_sub(1),
+                bytes[1].wrapping_add(1),
+            ])
+        }
+        // A command once more.
+        8 if commands > 0 => {
+            let from = 2 + 3 * random.below(commands);
+            let to = 2 + 3 * random.below(commands + 1);
+            let command = bytes[from..from + 3].to_vec();
+            bytes.splice(to..to, command);
+        }
+        // A command turned round, or of the other kind.
+        _ if commands > 0 => {
+            let from = 2 + 3 * random.below(commands);
+            if random.once_in(2) {
+                bytes.swap(from + 1, from + 2);
+            } else {
+                bytes[from] ^= 1;
+            }
+        }
+        _ => bytes.clear(),
+    }
+    bytes
+}
+
+/// Bytes that look like commands, in any order.
+pub fn noise(random: &mut Random) -> Vec<u8> {
+    let nodes = random.between(2, 6);
+    let mut bytes = vec![1, nodes as u8];
+    for _ in 0..random.below(12) {
+        let kind = if random.once_in(12) {
+            random.byte() % 5
+        } else {
+            random.pick(&[2, 2, 3])
+        };
+        bytes.extend([kind, random.below(nodes) as u8, random.below(nodes) as u8]);
+    }
+    bytes.push(0);
+    bytes
+}

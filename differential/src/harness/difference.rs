@@ -1,0 +1,30 @@
+//! What is told where the two part.
+use std::fmt;
+
+#[derive(Debug)]
+pub struct Difference {
+    pub sheet: Vec<u8>,
+    pub call: String,
+    pub wanted: String,
+    pub given: String,
+}
+
+/// The bytes as two hexadecimal figures each.
+pub fn hex(bytes: &[u8]) -> String {
+    bytes.iter().map(|byte| format!("{byte:02x}")).collect()
+}
+
+/// The bytes of such figures.
+pub fn unhex(text: &str) -> Option<Vec<u8>> {
+    let pairs = (0..text.len()).step_by(2).map(|at| text.get(at..at + 2));
+    pairs.map(|pair| u8::from_str_radix(pair?, 16).ok()).collect()
+}
+
+impl fmt::Display for Difference {
+    fn fmt(&self, f: &mut fmt::Formatter<'_>) -> fmt::Result {
+        writeln!(f, "sheet  {}", hex(&self.sheet))?;
+        writeln!(f, "call   {}", self.call)?;
+        writeln!(f, "wanted {}", self.wanted)?;
+        write!(f, "given  {}", self.given)
+    }
+}

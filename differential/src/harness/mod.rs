@@ -1,0 +1,46 @@
+//! Every call of the library, held against the implementation of document 01 in this package.
+mod calls;
+mod cycles;
+mod damage;
+pub mod deep;
+pub mod difference;
+mod known;
+mod lent;
+mod trial;
+
+pub use difference::Difference;
+pub use trial::{try_any, try_damaged, Calls};
+
+use differential::random::Random;
+use differential::sheet;
+use differential::sheets::{chain, random_fork, random_graph, shuffled, side_by_side, untidy};
+
+/// Random sheet number `index`, which the seed fixes.
+pub fn random_sheet(random: &mut Random, index: u64) -> Vec<u8> {
+    let graph = match index % 10 {
+        0..=3 => random_graph(random, 9),
+        4..=6 => random_graph(random, 40),
+        7 => random_graph(random, 128),
+        8 => {
+            let parts = [
+                random_graph(random, 20),
+                random_graph(random, 40),
+                random_graph(random, 9),
+            ];
+            let graph = side_by_side(&parts);
+            shuffled(random, &graph)
+        }
+        _ if random.once_in(2) => {
+            let fragments = random.between(1, 6);
+            random_fork(random, fragments)
+        }
+        _ => match sheet::read(&chain(random.between(1, 9))) {
+            Ok(graph) => shuffled(random, &graph),
+            Err(_) => random_graph(random, 128),
+        },
+    };
+    if random.once_in(4) {
+        return sheet::tidy(&graph);
+    }
+    untidy(random, &graph)
+}
