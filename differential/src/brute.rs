@@ -11,10 +11,7 @@ pub struct Solved {
 /// How many placings the graph has.
 pub fn placings(graph: &Graph) -> usize {
     let choices = graph.leaves().len() + 1;
-    graph
-        .roots()
-        .iter()
-        .fold(1, |placings: usize, _| placings.saturating_mul(choices))
+    graph.roots().iter().fold(1, |placings: usize, _| placings.saturating_mul(choices))
 }
 
 /// Every placing, handed to `visit`.
@@ -37,10 +34,7 @@ pub fn solved_forms(graph: &Graph) -> Vec<Solved> {
     let mut solved = Vec::new();
     each_placing(graph, |placing| {
         if let Some(descent) = solved_form(graph, placing) {
-            solved.push(Solved {
-                placing: placing.to_vec(),
-                descent,
-            });
+            solved.push(Solved { placing: placing.to_vec(), descent });
         }
     });
     solved.sort_by_key(|form| form.descent.pairs());
@@ -52,10 +46,7 @@ pub fn minimal(solved: &[Solved]) -> Vec<&Solved> {
     let mut minimal: Vec<&Solved> = Vec::new();
     for form in solved {
         // Below every solved form there is a minimal one, and it has come before.
-        if !minimal
-            .iter()
-            .any(|below| below.descent != form.descent && form.descent.contains(&below.descent))
-        {
+        if !minimal.iter().any(|below| below.descent != form.descent && form.descent.contains(&below.descent)) {
             minimal.push(form);
         }
     }

@@ -92,28 +92,16 @@ fn the_chain_of_two() {
     assert_eq!(bytes, write(12, &tree, &[(1, 6), (2, 8), (4, 8), (5, 10)]));
     let graph = read(&bytes).unwrap();
     assert_eq!(lines(&graph), [" 3:2 6:1 8:4 10:5", " 0:4 6:1 8:2 10:5"]);
-    assert_eq!(
-        drawing::drawing(&graph, &all(&graph)[0]),
-        "0(1[6(7)],2[3(4[8(9)],5[10(11)])])"
-    );
+    assert_eq!(drawing::drawing(&graph, &all(&graph)[0]), "0(1[6(7)],2[3(4[8(9)],5[10(11)])])");
     assert_eq!(table(&graph), [[0, 1, 2], [3, 4, 2], [6, 7, 1], [8, 9, 1], [10, 11, 1]]);
 }
 
 #[test]
 fn dominance_edges_up_to_255_pass() {
     // 128 nodes in 16 fragments of one root and 7 leaves.
-    let tree: Vec<Edge> = (0..128)
-        .filter(|node| node % 8 != 0)
-        .map(|node| (node - node % 8, node))
-        .collect();
-    let dominance: Vec<Edge> = tree
-        .iter()
-        .flat_map(|&(_, leaf)| (0..16).map(move |i| (leaf, 8 * i)))
-        .collect();
-    assert_eq!(
-        read(&write(128, &tree, &dominance[..255])).unwrap().dominance.len(),
-        255
-    );
+    let tree: Vec<Edge> = (0..128).filter(|node| node % 8 != 0).map(|node| (node - node % 8, node)).collect();
+    let dominance: Vec<Edge> = tree.iter().flat_map(|&(_, leaf)| (0..16).map(move |i| (leaf, 8 * i))).collect();
+    assert_eq!(read(&write(128, &tree, &dominance[..255])).unwrap().dominance.len(), 255);
     assert_eq!(read(&write(128, &tree, &dominance[..256])), Err(8));
     let mut repeated = dominance[..255].to_vec();
     repeated.push(dominance[7]);
@@ -179,10 +167,7 @@ fn brute_force_agrees() {
         assert_eq!(hypernormal::has_cycle(&graph), solved.is_empty());
         for form in &solved {
             let answers = check(&graph, &form.placing);
-            assert_eq!(
-                (answers.solved, answers.reading),
-                (true, listed.contains(&form.placing))
-            );
+            assert_eq!((answers.solved, answers.reading), (true, listed.contains(&form.placing)));
         }
         seen[usize::from(solved.is_empty())] += 1;
     }
@@ -208,11 +193,7 @@ fn the_ways_agree_on_larger_sheets() {
         }
         for placing in plain.iter().take(20) {
             let configuration = rule1::configuration(&graph, placing);
-            let answers = Answers {
-                solved: true,
-                configuration: crate::placing::is_matching(placing),
-                reading: true,
-            };
+            let answers = Answers { solved: true, configuration: crate::placing::is_matching(placing), reading: true };
             assert_eq!(check(&graph, placing), answers);
             assert!(check(&graph, &configuration).configuration);
         }

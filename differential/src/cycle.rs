@@ -15,13 +15,10 @@ fn joined(graph: &Graph, kind: u8, one: Node, other: Node) -> bool {
 
 /// Whether the bytes spell a simple hypernormal cycle.
 pub fn check(graph: &Graph, bytes: &[u8]) -> bool {
-    let pairs: Vec<(Node, u8)> = bytes
-        .chunks_exact(2)
-        .map(|pair| (usize::from(pair[0]), pair[1]))
-        .collect();
+    let pairs: Vec<(Node, u8)> = bytes.chunks_exact(2).map(|pair| (usize::from(pair[0]), pair[1])).collect();
     let all_nodes = pairs.iter().all(|&(node, _)| node < graph.nodes());
     let all_different = (0..pairs.len()).all(|i| pairs[..i].iter().all(|&(node, _)| node != pairs[i].0));
-    if bytes.len() % 2 != 0 || pairs.len() < 2 || !all_nodes || !all_different {
+    if !bytes.len().is_multiple_of(2) || pairs.len() < 2 || !all_nodes || !all_different {
         return false;
     }
     let around = |i: usize| (pairs[i], pairs[(i + 1) % pairs.len()]);

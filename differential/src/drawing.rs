@@ -3,11 +3,7 @@ use crate::graph::{Graph, Node};
 use crate::placing::{hung, TOP};
 
 fn fragment(graph: &Graph, placing: &[u8], root: Node) -> String {
-    let leaves: Vec<String> = graph
-        .leaves_of(root)
-        .into_iter()
-        .map(|below| leaf(graph, placing, below))
-        .collect();
+    let leaves: Vec<String> = graph.leaves_of(root).into_iter().map(|below| leaf(graph, placing, below)).collect();
     format!("{root}({})", leaves.join(","))
 }
 

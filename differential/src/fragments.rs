@@ -80,10 +80,7 @@ impl Fragments {
         }
         let components = self.components(part & !(1 << top));
         let leaves = |component: &Part| self.under[top].iter().filter(|&under| under & component != 0).count();
-        components
-            .iter()
-            .all(|component| leaves(component) == 1)
-            .then_some(components)
+        components.iter().all(|component| leaves(component) == 1).then_some(components)
     }
 
     /// Whether a connected part has a solved form. A solved form of the whole has one of each part within it, so any fragment
@@ -98,10 +95,7 @@ impl Fragments {
 /// Whether the graph with these dominance edges has a solved form.
 pub fn solvable(graph: &Graph, dominance: &[Edge]) -> bool {
     let fragments = Fragments::new(graph, dominance);
-    fragments
-        .components(fragments.whole())
-        .into_iter()
-        .all(|part| fragments.part_solvable(part))
+    fragments.components(fragments.whole()).into_iter().all(|part| fragments.part_solvable(part))
 }
 
 struct Chart<'a> {
@@ -113,9 +107,7 @@ struct Chart<'a> {
 
 impl Chart<'_> {
     fn product(&mut self, parts: Vec<Part>) -> Option<u64> {
-        parts
-            .into_iter()
-            .try_fold(1, |product: u64, part| Some(product.saturating_mul(self.count(part)?)))
+        parts.into_iter().try_fold(1, |product: u64, part| Some(product.saturating_mul(self.count(part)?)))
     }
 
     fn count(&mut self, part: Part) -> Option<u64> {
@@ -139,10 +131,5 @@ impl Chart<'_> {
 pub fn count(graph: &Graph, parts: usize) -> Option<u64> {
     let fragments = Fragments::new(graph, &graph.dominance);
     let whole = fragments.components(fragments.whole());
-    Chart {
-        fragments: &fragments,
-        counts: HashMap::new(),
-        parts,
-    }
-    .product(whole)
+    Chart { fragments: &fragments, counts: HashMap::new(), parts }.product(whole)
 }

@@ -59,18 +59,12 @@ impl Graph {
 
     /// The leaves of the root's fragment, ascending.
     pub fn leaves_of(&self, root: Node) -> Vec<Node> {
-        self.leaves()
-            .into_iter()
-            .filter(|&leaf| self.root_of(leaf) == root)
-            .collect()
+        self.leaves().into_iter().filter(|&leaf| self.root_of(leaf) == root).collect()
     }
 
     /// Tree edges, parent and child, by ascending child.
     pub fn tree(&self) -> impl Iterator<Item = Edge> + '_ {
-        self.parent
-            .iter()
-            .enumerate()
-            .filter_map(|(child, parent)| parent.map(|parent| (parent, child)))
+        self.parent.iter().enumerate().filter_map(|(child, parent)| parent.map(|parent| (parent, child)))
     }
 
     /// The descent relation of the trees and further edges.
@@ -128,10 +122,7 @@ mod tests {
 
     #[test]
     fn descent_is_transitive() {
-        let graph = Graph {
-            parent: vec![None, Some(0), None, Some(2)],
-            dominance: vec![(1, 2)],
-        };
+        let graph = Graph { parent: vec![None, Some(0), None, Some(2)], dominance: vec![(1, 2)] };
         let descent = graph.descent(graph.dominance.iter().copied());
         assert!(descent.holds(0, 3) && descent.holds(1, 3) && !descent.holds(2, 1));
         assert!(!descent.is_cyclic() && graph.descent([(1, 0)]).is_cyclic());

@@ -41,12 +41,7 @@ impl Auxiliary {
 
     /// The edges of the graph that are bridges of what is left.
     fn matched_bridges(&self) -> Vec<usize> {
-        let mut search = Search {
-            auxiliary: self,
-            clock: 0,
-            seen: vec![0; self.joined.len()],
-            bridges: Vec::new(),
-        };
+        let mut search = Search { auxiliary: self, clock: 0, seen: vec![0; self.joined.len()], bridges: Vec::new() };
         for end in 0..self.joined.len() {
             if !self.gone[end] && search.seen[end] == 0 {
                 search.visit(end, None);

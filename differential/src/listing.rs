@@ -6,9 +6,7 @@ use crate::placing::of_edges;
 /// there begins with another of its edges.
 fn kept(edges: &[Edge], descent: &Descent) -> Vec<Edge> {
     let redundant = |&(leaf, root): &Edge| {
-        edges
-            .iter()
-            .any(|&(other_leaf, other)| other_leaf == leaf && other != root && descent.holds(other, root))
+        edges.iter().any(|&(other_leaf, other)| other_leaf == leaf && other != root && descent.holds(other, root))
     };
     edges.iter().copied().filter(|edge| !redundant(edge)).collect()
 }
@@ -81,13 +79,7 @@ impl Recursion<'_> {
 
 /// The first readings, as many as wanted or as there are, if no more than so many graphs are looked at.
 pub fn first(graph: &Graph, wanted: usize, leave: Leave, graphs: usize) -> Result<Vec<Vec<u8>>, TooLong> {
-    let mut recursion = Recursion {
-        graph,
-        leave,
-        wanted,
-        graphs,
-        found: Vec::new(),
-    };
+    let mut recursion = Recursion { graph, leave, wanted, graphs, found: Vec::new() };
     recursion.enter(&graph.dominance)?;
     Ok(recursion.found)
 }
@@ -107,11 +99,7 @@ pub fn below(graph: &Graph, solved: &Descent) -> Vec<u8> {
         let Some((a, b)) = choice(graph.nodes(), &edges) else {
             return of_edges(graph.nodes(), &edges);
         };
-        let (upper, lower) = if solved.holds(a, graph.root_of(b)) {
-            (a, b)
-        } else {
-            (b, a)
-        };
+        let (upper, lower) = if solved.holds(a, graph.root_of(b)) { (a, b) } else { (b, a) };
         edges = with(&edges, (upper, graph.root_of(lower)));
     }
 }

@@ -3,13 +3,13 @@ mod harness;
 
 use differential::random::Random;
 use harness::difference::unhex;
-use harness::{deep, Calls, Difference};
+use harness::{deep, Difference, Tally};
 use std::process::ExitCode;
 
 const USAGE: &str = "\
 usage: differential [--seed N] [--sheets N] [--first N] [--bytes HEX]
   --seed N    the seed that fixes the sheets (default 1)
-  --sheets N  how many random sheets (default 6000), each with damaged forms of it
+  --sheets N  how many random sheets (default 2500), each with damaged forms of it
   --first N   the number of the first one (default 0)
   --bytes HEX this sheet alone
 ";
@@ -24,12 +24,7 @@ struct Options {
 }
 
 fn options(arguments: &[String]) -> Option<Options> {
-    let mut options = Options {
-        seed: 1,
-        sheets: 6000,
-        first: 0,
-        bytes: None,
-    };
+    let mut options = Options { seed: 1, sheets: 2500, first: 0, bytes: None };
     for pair in arguments.chunks(2) {
         let [name, value] = pair else {
             return None;
@@ -47,29 +42,26 @@ fn options(arguments: &[String]) -> Option<Options> {
 
 /// The random numbers of one sheet: the same whichever sheets come before it.
 fn random_of(seed: u64, index: u64) -> Random {
-    let mut random = Random::new(seed);
-    Random::new(random.word() ^ index.wrapping_mul(0x9e37_79b9_7f4a_7c15))
+    let seed = Random::new(seed).word();
+    Random::new(Random::new(seed ^ index).word())
 }
 
-/// The sheets tried, and the calls compared.
-fn run(options: &Options) -> Result<(u64, Calls), Difference> {
+fn run(options: &Options) -> Result<Tally, Difference> {
     if let Some(bytes) = &options.bytes {
-        return Ok((1, harness::try_any(&mut random_of(options.seed, 0), bytes)?));
+        return harness::try_any(&mut random_of(options.seed, 0), bytes);
     }
-    let (mut sheets, mut calls) = (0, 0);
+    let mut tally = Tally::default();
     for index in options.first..options.first + options.sheets {
         let mut random = random_of(options.seed, index);
         let bytes = harness::random_sheet(&mut random, index);
-        calls += harness::try_any(&mut random, &bytes)?;
-        calls += harness::try_damaged(&mut random, &bytes, DAMAGED)?;
-        sheets += 1 + DAMAGED as u64;
+        tally += harness::try_any(&mut random, &bytes)?;
+        tally += harness::try_damaged(&mut random, &bytes, DAMAGED)?;
     }
     let mut random = random_of(options.seed, u64::MAX);
     for bytes in deep::sheets(&mut random) {
-        calls += deep::try_deep(&mut random, &bytes)?;
-        sheets += 1;
+        tally += deep::try_deep(&mut random, &bytes)?;
     }
-    Ok((sheets, calls))
+    Ok(tally)
 }
 
 fn main() -> ExitCode {
@@ -79,10 +71,11 @@ fn main() -> ExitCode {
         return ExitCode::from(2);
     };
     match run(&options) {
-        Ok((sheets, calls)) => {
+        Ok(Tally { sheets, refused, unsolvable, calls }) => {
+            let seed = options.seed;
             println!(
-                "seed {}: {sheets} sheets, {calls} calls compared, no difference",
-                options.seed
+                "seed {seed}: {calls} calls on {sheets} sheets ({refused} not well-formed, {unsolvable} without a reading) \
+                 compared, no difference"
             );
             ExitCode::SUCCESS
         }

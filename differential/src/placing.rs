@@ -24,11 +24,7 @@ pub fn is_placing(graph: &Graph, bytes: &[u8]) -> bool {
 
 /// An edge from each leaf to each root hung under it.
 pub fn hung(placing: &[u8]) -> impl Iterator<Item = Edge> + '_ {
-    placing
-        .iter()
-        .enumerate()
-        .filter(|(_, &leaf)| leaf != TOP)
-        .map(|(root, &leaf)| (usize::from(leaf), root))
+    placing.iter().enumerate().filter(|(_, &leaf)| leaf != TOP).map(|(root, &leaf)| (usize::from(leaf), root))
 }
 
 /// The placing in which each root hangs under the leaf of its edge.
@@ -63,9 +59,5 @@ pub fn check(graph: &Graph, bytes: &[u8]) -> Answers {
         return Answers::default();
     };
     let below = graph.descent(hung(&listing::below(graph, &descent)));
-    Answers {
-        solved: true,
-        configuration: is_matching(bytes),
-        reading: below == descent,
-    }
+    Answers { solved: true, configuration: is_matching(bytes), reading: below == descent }
 }

@@ -13,20 +13,14 @@ fn depth(graph: &Graph, placing: &[u8], node: Node) -> usize {
 
 /// The roots hung under the leaf, ascending.
 fn carried(placing: &[u8], leaf: Node) -> Vec<Node> {
-    hung(placing)
-        .filter(|&(under, _)| under == leaf)
-        .map(|(_, root)| root)
-        .collect()
+    hung(placing).filter(|&(under, _)| under == leaf).map(|(_, root)| root).collect()
 }
 
 /// The configuration that comes from a solved form.
 pub fn configuration(graph: &Graph, solved: &[u8]) -> Vec<u8> {
     let mut placing = solved.to_vec();
     loop {
-        let several = graph
-            .leaves()
-            .into_iter()
-            .filter(|&leaf| carried(&placing, leaf).len() > 1);
+        let several = graph.leaves().into_iter().filter(|&leaf| carried(&placing, leaf).len() > 1);
         let Some(leaf) = several.min_by_key(|&leaf| (depth(graph, &placing, leaf), leaf)) else {
             return placing;
         };

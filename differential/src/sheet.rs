@@ -70,18 +70,11 @@ impl Commands {
             return Err(4);
         }
         self.dominance.sort_unstable();
-        let graph = Graph {
-            parent: self.parent,
-            dominance: self.dominance,
-        };
+        let graph = Graph { parent: self.parent, dominance: self.dominance };
         if (0..graph.nodes()).any(|node| graph.is_root(node) && graph.is_leaf(node)) {
             return Err(5);
         }
-        if graph
-            .dominance
-            .iter()
-            .any(|&(leaf, root)| !graph.is_leaf(leaf) || !graph.is_root(root))
-        {
+        if graph.dominance.iter().any(|&(leaf, root)| !graph.is_leaf(leaf) || !graph.is_root(root)) {
             return Err(6);
         }
         Ok(graph)
@@ -98,10 +91,7 @@ pub fn read(bytes: &[u8]) -> Result<Graph, Refused> {
     if !(2..=NODES).contains(&nodes) {
         return Err(3);
     }
-    let mut commands = Commands {
-        parent: vec![None; nodes],
-        dominance: Vec::new(),
-    };
+    let mut commands = Commands { parent: vec![None; nodes], dominance: Vec::new() };
     loop {
         match byte(&mut rest)? {
             END if rest.is_empty() => return commands.graph(),

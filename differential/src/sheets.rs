@@ -23,21 +23,11 @@ pub fn chain(length: usize) -> Vec<u8> {
 
 /// Several sheets in one, the nodes of each numbered after those of the ones before.
 pub fn side_by_side(graphs: &[Graph]) -> Graph {
-    let mut whole = Graph {
-        parent: Vec::new(),
-        dominance: Vec::new(),
-    };
+    let mut whole = Graph { parent: Vec::new(), dominance: Vec::new() };
     for graph in graphs {
         let before = whole.nodes();
-        whole
-            .parent
-            .extend(graph.parent.iter().map(|parent| parent.map(|node| node + before)));
-        whole.dominance.extend(
-            graph
-                .dominance
-                .iter()
-                .map(|&(leaf, root)| (leaf + before, root + before)),
-        );
+        whole.parent.extend(graph.parent.iter().map(|parent| parent.map(|node| node + before)));
+        whole.dominance.extend(graph.dominance.iter().map(|&(leaf, root)| (leaf + before, root + before)));
     }
     whole
 }
@@ -48,11 +38,7 @@ pub fn renumbered(graph: &Graph, names: &[Node]) -> Graph {
     for (above, child) in graph.tree() {
         parent[names[child]] = Some(names[above]);
     }
-    let mut dominance: Vec<Edge> = graph
-        .dominance
-        .iter()
-        .map(|&(leaf, root)| (names[leaf], names[root]))
-        .collect();
+    let mut dominance: Vec<Edge> = graph.dominance.iter().map(|&(leaf, root)| (names[leaf], names[root])).collect();
     dominance.sort_unstable();
     Graph { parent, dominance }
 }
@@ -103,10 +89,7 @@ fn forest(random: &mut Random, nodes: usize, fragments: usize, trees: Trees) -> 
             parent.push(Some(above));
         }
     }
-    Graph {
-        parent,
-        dominance: Vec::new(),
-    }
+    Graph { parent, dominance: Vec::new() }
 }
 
 /// A forest made of the fragments: one after the other in random order, each under a leaf that is there already or on top.
@@ -124,6 +107,17 @@ pub fn random_hanging(random: &mut Random, graph: &Graph) -> Vec<u8> {
     placing
 }
 
+/// A forest that is one long branch: each fragment under a leaf of the one before.
+fn random_branch(random: &mut Random, graph: &Graph) -> Vec<u8> {
+    let mut roots = graph.roots();
+    random.shuffle(&mut roots);
+    let mut placing = vec![TOP; graph.nodes()];
+    for pair in roots.windows(2) {
+        placing[pair[1]] = random.pick(&graph.leaves_of(pair[0])) as u8;
+    }
+    placing
+}
+
 /// How dominance edges are chosen.
 #[derive(Clone, Copy)]
 enum Edges {
@@ -131,6 +125,8 @@ enum Edges {
     Any,
     /// Those of one solved form, and so many more of any kind.
     Hidden(usize),
+    /// Those of one solved form that is one long branch.
+    Branch,
     /// Each edge joins two parts that nothing joined before: no undirected cycle.
     Joining,
 }
@@ -143,11 +139,13 @@ fn some_pairs(random: &mut Random, mut pairs: Vec<Edge>, wanted: usize) -> Vec<E
 
 fn pairs_of(graph: &Graph) -> Vec<Edge> {
     let roots = graph.roots();
-    graph
-        .leaves()
-        .into_iter()
-        .flat_map(|leaf| roots.iter().map(move |&root| (leaf, root)))
-        .collect()
+    graph.leaves().into_iter().flat_map(|leaf| roots.iter().map(move |&root| (leaf, root))).collect()
+}
+
+/// Those of the pairs that run downward in the placing.
+fn downward(graph: &Graph, placing: &[u8]) -> Vec<Edge> {
+    let descent = graph.descent(hung(placing));
+    pairs_of(graph).into_iter().filter(|&(leaf, root)| descent.holds(leaf, root)).collect()
 }
 
 fn joining(random: &mut Random, graph: &Graph, wanted: usize) -> Vec<Edge> {
@@ -157,9 +155,7 @@ fn joining(random: &mut Random, graph: &Graph, wanted: usize) -> Vec<Edge> {
         let (one, other) = (part[leaf], part[root]);
         if one != other && edges.len() < wanted {
             edges.push((leaf, root));
-            part.iter_mut()
-                .filter(|part| **part == one)
-                .for_each(|part| *part = other);
+            part.iter_mut().filter(|part| **part == one).for_each(|part| *part = other);
         }
     }
     edges
@@ -169,14 +165,13 @@ fn dominance(random: &mut Random, graph: &Graph, edges: Edges, wanted: usize) ->
     let mut chosen = match edges {
         Edges::Any => some_pairs(random, pairs_of(graph), wanted),
         Edges::Joining => joining(random, graph, wanted),
+        Edges::Branch => {
+            let placing = random_branch(random, graph);
+            some_pairs(random, downward(graph, &placing), wanted)
+        }
         Edges::Hidden(more) => {
             let placing = random_hanging(random, graph);
-            let descent = graph.descent(hung(&placing));
-            let downward = pairs_of(graph)
-                .into_iter()
-                .filter(|&(leaf, root)| descent.holds(leaf, root))
-                .collect();
-            let mut chosen = some_pairs(random, downward, wanted.saturating_sub(more));
+            let mut chosen = some_pairs(random, downward(graph, &placing), wanted.saturating_sub(more));
             chosen.extend(some_pairs(random, pairs_of(graph), more));
             chosen
         }
@@ -189,11 +184,7 @@ fn dominance(random: &mut Random, graph: &Graph, edges: Edges, wanted: usize) ->
 
 /// A random graph with so many nodes at most, and two at least.
 pub fn random_graph(random: &mut Random, most_nodes: usize) -> Graph {
-    let nodes = if random.once_in(8) {
-        most_nodes.min(NODES)
-    } else {
-        random.between(2, most_nodes.min(NODES))
-    };
+    let nodes = if random.once_in(8) { most_nodes.min(NODES) } else { random.between(2, most_nodes.min(NODES)) };
     let most_fragments = nodes / 2;
     let fragments = match random.below(3) {
         0 => most_fragments,
@@ -203,13 +194,7 @@ pub fn random_graph(random: &mut Random, most_nodes: usize) -> Graph {
     let trees = random.pick(&[Trees::Flat, Trees::Tall, Trees::Any, Trees::Any]);
     let mut graph = forest(random, nodes, fragments, trees);
     let more = random.between(1, 2);
-    let edges = random.pick(&[
-        Edges::Any,
-        Edges::Hidden(0),
-        Edges::Hidden(0),
-        Edges::Hidden(more),
-        Edges::Joining,
-    ]);
+    let edges = random.pick(&[Edges::Any, Edges::Hidden(0), Edges::Hidden(0), Edges::Hidden(more), Edges::Joining]);
     let wanted = match random.below(4) {
         0 => random.between(0, MOST_DOMINANCE),
         1 => random.between(0, fragments),
@@ -219,15 +204,22 @@ pub fn random_graph(random: &mut Random, most_nodes: usize) -> Graph {
     shuffled(random, &graph)
 }
 
+/// A graph with as many dominance edges as a sheet may have.
+pub fn crowded_graph(random: &mut Random) -> Graph {
+    let nodes = random.between(64, NODES);
+    let fragments = random.between(nodes / 3, nodes / 2);
+    let mut graph = forest(random, nodes, fragments, Trees::Any);
+    let edges = random.pick(&[Edges::Any, Edges::Branch]);
+    graph.dominance = dominance(random, &graph, edges, MOST_DOMINANCE);
+    shuffled(random, &graph)
+}
+
 /// Fragments that all stand above one root: k of them have k! readings.
 pub fn random_fork(random: &mut Random, fragments: usize) -> Graph {
     let mut graph = forest(random, 3 * fragments + 2, fragments + 1, Trees::Any);
     let roots = graph.roots();
     let lowest = roots[fragments];
-    graph.dominance = roots[..fragments]
-        .iter()
-        .map(|&root| (random.pick(&graph.leaves_of(root)), lowest))
-        .collect();
+    graph.dominance = roots[..fragments].iter().map(|&root| (random.pick(&graph.leaves_of(root)), lowest)).collect();
     graph.dominance.sort_unstable();
     shuffled(random, &graph)
 }

@@ -2,6 +2,7 @@
 use super::difference::{hex, Difference};
 use super::known::{Known, Placed, Total};
 use super::lent::{Lent, LentTable};
+use super::trial::Tally;
 use bixtogan::{Count, Place, Refusal, Unplaced};
 use differential::placing::Answers;
 use differential::random::Random;
@@ -12,11 +13,10 @@ pub struct Caller<'a> {
     pub known: &'a Known,
     pub random: &'a mut Random,
     pub sheet: Lent,
-    /// How many calls were compared.
-    pub calls: u64,
+    pub tally: Tally,
 }
 
-type Compared = Result<(), Difference>;
+pub type Compared = Result<(), Difference>;
 
 /// What a call did to its buffer, and what is wanted.
 struct Seen<'a> {
@@ -27,17 +27,12 @@ struct Seen<'a> {
 impl<'a> Caller<'a> {
     pub fn new(known: &'a Known, random: &'a mut Random) -> Caller<'a> {
         let sheet = Lent::of(random, &known.bytes);
-        Caller {
-            known,
-            random,
-            sheet,
-            calls: 0,
-        }
+        Caller { known, random, sheet, tally: Tally::of(known) }
     }
 
     /// Counts a call, and tells where it went wrong.
-    fn told(&mut self, right: bool, call: &str, wanted: impl Debug, given: impl Debug) -> Compared {
-        self.calls += 1;
+    pub fn told(&mut self, right: bool, call: &str, wanted: impl Debug, given: impl Debug) -> Compared {
+        self.tally.calls += 1;
         let stray = !self.sheet.is_untouched();
         if right && !stray {
             return Ok(());
@@ -55,12 +50,10 @@ impl<'a> Caller<'a> {
         let Some(wanted) = self.known.count() else {
             return Ok(());
         };
-        let given = bixtogan::count(self.sheet.lend())
-            .map_err(Refusal::number)
-            .map(|count| match count {
-                Count::Exactly(count) => Total::Exactly(count),
-                Count::More => Total::More,
-            });
+        let given = bixtogan::count(self.sheet.lend()).map_err(Refusal::number).map(|count| match count {
+            Count::Exactly(count) => Total::Exactly(count),
+            Count::More => Total::More,
+        });
         self.told(given == wanted, "count", wanted, given)
     }
 
@@ -89,11 +82,7 @@ impl<'a> Caller<'a> {
         let mut lent = Lent::new(self.random, room);
         let mut moved = Place::after(place);
         let answer = moved.next(self.sheet.lend(), lent.lend_mut());
-        let to = if matches!(wanted, Placed::Done(_)) {
-            place + 1
-        } else {
-            place
-        };
+        let to = if matches!(wanted, Placed::Done(_)) { place + 1 } else { place };
         let right = self.is_placed(&wanted, &Seen { lent: &lent, answer }) && moved.number() == to;
         let call = format!("reading after place {place}, {room} bytes lent");
         let given = (answer, moved.number(), hex(lent.lend()));
@@ -136,12 +125,7 @@ impl<'a> Caller<'a> {
         let bytes = wanted.as_ref().map(|text| text.as_bytes()).map_err(|&refused| refused);
         let right = Self::is_written(&lent, bytes, given);
         let text = String::from_utf8_lossy(&lent.lend()[..given.unwrap_or(0).min(room)]).into_owned();
-        self.told(
-            right,
-            &format!("drawing of reading {number}, {room} bytes lent"),
-            wanted,
-            (given, text),
-        )
+        self.told(right, &format!("drawing of reading {number}, {room} bytes lent"), wanted, (given, text))
     }
 
     pub fn tidy(&mut self, room: usize) -> Compared {
@@ -177,20 +161,10 @@ impl<'a> Caller<'a> {
     /// With the answers that are wanted: the definitions may have given them in another way.
     pub fn check_placing_for(&mut self, bytes: &[u8], wanted: Result<Answers, Refused>) -> Compared {
         let lent = Lent::of(self.random, bytes);
-        let given = bixtogan::check_placing(self.sheet.lend(), lent.lend())
-            .map_err(Refusal::number)
-            .map(|answers| {
-                let bixtogan::Answers {
-                    solved,
-                    configuration,
-                    reading,
-                } = answers;
-                Answers {
-                    solved,
-                    configuration,
-                    reading,
-                }
-            });
+        let given = bixtogan::check_placing(self.sheet.lend(), lent.lend()).map_err(Refusal::number).map(|answers| {
+            let bixtogan::Answers { solved, configuration, reading } = answers;
+            Answers { solved, configuration, reading }
+        });
         let right = given == wanted && lent.is_untouched();
         self.told(right, &format!("check of the placing {bytes:?}"), wanted, given)
     }

@@ -29,12 +29,7 @@ pub fn found(random: &mut Random, graph: &Graph) -> Option<Vec<u8>> {
         let (kind, next) = random.pick(&onward);
         walk.push((kind, at));
         if let Some(start) = walk.iter().position(|&(_, node)| node == next) {
-            return Some(
-                walk[start..]
-                    .iter()
-                    .flat_map(|&(kind, node)| [node as u8, kind])
-                    .collect(),
-            );
+            return Some(walk[start..].iter().flat_map(|&(kind, node)| [node as u8, kind]).collect());
         }
         came = Some((kind, at));
         at = next;
@@ -69,11 +64,7 @@ pub fn changed(random: &mut Random, cycle: &[u8], nodes: usize) -> Vec<u8> {
         }
         1 if !bytes.is_empty() => {
             let at = random.below(bytes.len());
-            bytes[at] = if at % 2 == 0 {
-                random.below(nodes) as u8
-            } else {
-                bytes[at] ^ 1
-            };
+            bytes[at] = if at.is_multiple_of(2) { random.below(nodes) as u8 } else { bytes[at] ^ 1 };
         }
         2 => bytes.truncate(random.below(bytes.len() + 1)),
         3 => bytes.extend_from_within(..),
@@ -85,7 +76,5 @@ pub fn changed(random: &mut Random, cycle: &[u8], nodes: usize) -> Vec<u8> {
 
 /// Pairs by chance: nodes and kinds, most of them of the graph.
 pub fn any(random: &mut Random, nodes: usize) -> Vec<u8> {
-    (0..random.below(6))
-        .flat_map(|_| [random.below(nodes + 1) as u8, random.between(1, 4) as u8])
-        .collect()
+    (0..random.below(6)).flat_map(|_| [random.below(nodes + 1) as u8, random.between(1, 4) as u8]).collect()
 }

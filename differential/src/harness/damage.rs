@@ -6,37 +6,30 @@ pub fn damaged(random: &mut Random, sheet: &[u8]) -> Vec<u8> {
     let mut bytes = sheet.to_vec();
     let commands = (sheet.len() - 3) / 3;
     let at = random.below(bytes.len());
-    match random.below(10) {
+    match random.below(12) {
         0 => bytes[at] ^= 1 << random.below(8),
         1 => bytes[at] = random.byte(),
         2 => bytes[at] = random.byte() % 6,
         3 => bytes.truncate(at),
-        4 => bytes.extend(
-            (0..random.between(1, 5))
-                .map(|_| random.byte() % 4)
-                .collect::<Vec<u8>>(),
-        ),
+        4 => bytes.extend((0..random.between(1, 5)).map(|_| random.byte() % 4).collect::<Vec<u8>>()),
         5 => bytes.insert(at, random.byte() % 4),
         6 => drop(bytes.remove(at)),
-        7 => {
-            bytes[1] = random.pick(&[
-                0,
-                1,
-                2,
-                127,
-                128,
-                129,
-                255,
-                bytes[1].wrapping_sub(1),
-                bytes[1].wrapping_add(1),
-            ])
-        }
+        7 => bytes[1] = random.pick(&[0, 1, 2, 127, 128, 129, 255, bytes[1].wrapping_sub(1), bytes[1].wrapping_add(1)]),
         // A command once more.
         8 if commands > 0 => {
             let from = 2 + 3 * random.below(commands);
             let to = 2 + 3 * random.below(commands + 1);
             let command = bytes[from..from + 3].to_vec();
             bytes.splice(to..to, command);
+        }
+        // A dominance edge more, from the leaf of one to the root of another.
+        9 if commands > 0 => {
+            let edges: Vec<&[u8]> = sheet[2..].chunks_exact(3).filter(|command| command[0] == 3).collect();
+            if !edges.is_empty() {
+                let (leaf, root) = (random.pick(&edges)[1], random.pick(&edges)[2]);
+                let end = bytes.len() - 1;
+                bytes.splice(end..end, [3, leaf, root]);
+            }
         }
         // A command turned round, or of the other kind.
         _ if commands > 0 => {
@@ -57,11 +50,7 @@ pub fn noise(random: &mut Random) -> Vec<u8> {
     let nodes = random.between(2, 6);
     let mut bytes = vec![1, nodes as u8];
     for _ in 0..random.below(12) {
-        let kind = if random.once_in(12) {
-            random.byte() % 5
-        } else {
-            random.pick(&[2, 2, 3])
-        };
+        let kind = if random.once_in(12) { random.byte() % 5 } else { random.pick(&[2, 2, 3]) };
         bytes.extend([kind, random.below(nodes) as u8, random.below(nodes) as u8]);
     }
     bytes.push(0);

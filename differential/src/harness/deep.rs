@@ -2,7 +2,7 @@
 use super::calls::Caller;
 use super::difference::unhex;
 use super::trial::known;
-use super::{Calls, Difference};
+use super::{Difference, Tally};
 use differential::graph::Graph;
 use differential::random::Random;
 use differential::sheets::{chain, random_fork, side_by_side};
@@ -24,34 +24,24 @@ const READINGS_771: &str = "0120021400020e01021b04020206020807020d0b02050c021a0f
 /// Sheets with 65,534, 65,535, 65,536 and 208,012 readings.
 pub fn sheets(random: &mut Random) -> Vec<Vec<u8>> {
     let beside = |parts: [&str; 2]| {
-        let graphs: Vec<Graph> = parts
-            .iter()
-            .filter_map(|part| sheet::read(&unhex(part)?).ok())
-            .collect();
+        let graphs: Vec<Graph> = parts.iter().filter_map(|part| sheet::read(&unhex(part)?).ok()).collect();
         sheet::tidy(&side_by_side(&graphs))
     };
     let forks: Vec<Graph> = (0..16).map(|_| random_fork(random, 2)).collect();
     let power = sheet::tidy(&side_by_side(&forks));
-    vec![
-        beside([READINGS_217, READINGS_302]),
-        beside([READINGS_771, READINGS_85]),
-        power,
-        chain(12),
-    ]
+    vec![beside([READINGS_217, READINGS_302]), beside([READINGS_771, READINGS_85]), power, chain(12)]
 }
 
 /// The count, and the readings around the last number.
-pub fn try_deep(random: &mut Random, bytes: &[u8]) -> Result<Calls, Difference> {
+pub fn try_deep(random: &mut Random, bytes: &[u8]) -> Result<Tally, Difference> {
     let known = known(bytes, LAST as usize + 1)?;
     let mut caller = Caller::new(&known, random);
     caller.count()?;
-    let room = known.room();
-    caller.reading(LAST - 2, room)?;
-    for number in [LAST - 1, LAST, LAST + 1] {
-        caller.reading(number, room)?;
-        caller.drawing(number, DRAWING)?;
+    for place in [LAST - 1, LAST] {
+        caller.reading(place, known.room())?;
+        caller.drawing(place + 1, DRAWING)?;
     }
-    Ok(caller.calls)
+    Ok(caller.tally)
 }
 
 #[cfg(test)]

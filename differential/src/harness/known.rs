@@ -43,12 +43,10 @@ const PLAIN_GRAPHS: usize = 3000;
 /// Parts that the count by free fragments may look at.
 const PARTS: usize = 20_000;
 
+const FEW: u64 = 3000;
+
 fn total(graph: &Graph, listed: usize, wanted: usize) -> Total {
-    let count = if listed < wanted {
-        Some(listed as u64)
-    } else {
-        fragments::count(graph, PARTS)
-    };
+    let count = if listed < wanted { Some(listed as u64) } else { fragments::count(graph, PARTS) };
     match count {
         None => Total::Unknown,
         Some(count) if count > LAST => Total::More,
@@ -67,22 +65,14 @@ impl Facts {
             Err(_) => listing::first(&graph, wanted, Leave::Unsolvable, usize::MAX).unwrap_or_default(),
         };
         if readings.is_empty() == solvable {
-            return Err(format!(
-                "free fragments say solvable {solvable}, the recursion does not"
-            ));
+            return Err(format!("free fragments say solvable {solvable}, the recursion does not"));
         }
-        let configuration = readings
-            .first()
-            .map_or(Vec::new(), |first| rule1::configuration(&graph, first));
+        let configuration = readings.first().map_or(Vec::new(), |first| rule1::configuration(&graph, first));
         Ok(Facts {
             tidy: sheet::tidy(&graph),
             table: sheet::table(&graph),
             solvable,
-            total: if solvable {
-                total(&graph, readings.len(), wanted)
-            } else {
-                Total::Exactly(0)
-            },
+            total: if solvable { total(&graph, readings.len(), wanted) } else { Total::Exactly(0) },
             readings,
             configuration,
             graph,
@@ -91,6 +81,15 @@ impl Facts {
 
     pub fn nodes(&self) -> usize {
         self.graph.nodes()
+    }
+
+    /// How many readings there are, where they are few. A call for a reading or the count walks from the first one, so long
+    /// walks are not asked for on every sheet.
+    pub fn few(&self) -> Option<u64> {
+        match self.total {
+            Total::Exactly(count) if count <= FEW => Some(count),
+            _ => None,
+        }
     }
 
     /// The reading with a number, or 11; none where the list was not worked out so far.
@@ -115,10 +114,7 @@ impl Known {
             Ok(graph) => Ok(Facts::new(graph, wanted)?),
             Err(refused) => Err(refused),
         };
-        Ok(Known {
-            bytes: bytes.to_vec(),
-            facts,
-        })
+        Ok(Known { bytes: bytes.to_vec(), facts })
     }
 
     fn read(&self) -> Result<&Facts, Refused> {

@@ -17,12 +17,7 @@ impl Lent {
     pub fn new(random: &mut Random, length: usize) -> Lent {
         let start = GUARD + random.below(16);
         let memory: Vec<u8> = (0..start + length + GUARD).map(|_| random.byte()).collect();
-        Lent {
-            before: memory.clone(),
-            memory,
-            start,
-            length,
-        }
+        Lent { before: memory.clone(), memory, start, length }
     }
 
     /// A buffer that holds these bytes.
@@ -66,17 +61,9 @@ pub struct LentTable {
 
 impl LentTable {
     pub fn new(random: &mut Random, length: usize) -> LentTable {
-        let mut record = || Fragment {
-            root: random.byte(),
-            lowest_leaf: random.byte(),
-            leaves: random.byte(),
-        };
+        let mut record = || Fragment { root: random.byte(), lowest_leaf: random.byte(), leaves: random.byte() };
         let memory: Vec<Fragment> = (0..length + 2 * GUARD_RECORDS).map(|_| record()).collect();
-        LentTable {
-            before: memory.clone(),
-            memory,
-            length,
-        }
+        LentTable { before: memory.clone(), memory, length }
     }
 
     pub fn lend_mut(&mut self) -> &mut [Fragment] {
@@ -89,10 +76,7 @@ impl LentTable {
         let same = |record: &Fragment, wanted: &[u8; 3]| [record.root, record.lowest_leaf, record.leaves] == *wanted;
         written.len() <= self.length
             && self.memory[..GUARD_RECORDS] == self.before[..GUARD_RECORDS]
-            && self.memory[GUARD_RECORDS..end]
-                .iter()
-                .zip(written)
-                .all(|(record, wanted)| same(record, wanted))
+            && self.memory[GUARD_RECORDS..end].iter().zip(written).all(|(record, wanted)| same(record, wanted))
             && self.memory[end..] == self.before[end..]
     }
 }

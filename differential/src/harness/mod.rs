@@ -6,27 +6,26 @@ pub mod deep;
 pub mod difference;
 mod known;
 mod lent;
+mod put;
+mod raw;
 mod trial;
 
 pub use difference::Difference;
-pub use trial::{try_any, try_damaged, Calls};
+pub use trial::{try_any, try_damaged, Tally};
 
 use differential::random::Random;
 use differential::sheet;
-use differential::sheets::{chain, random_fork, random_graph, shuffled, side_by_side, untidy};
+use differential::sheets::{chain, crowded_graph, random_fork, random_graph, shuffled, side_by_side, untidy};
 
 /// Random sheet number `index`, which the seed fixes.
 pub fn random_sheet(random: &mut Random, index: u64) -> Vec<u8> {
     let graph = match index % 10 {
         0..=3 => random_graph(random, 9),
         4..=6 => random_graph(random, 40),
+        7 if random.once_in(4) => crowded_graph(random),
         7 => random_graph(random, 128),
         8 => {
-            let parts = [
-                random_graph(random, 20),
-                random_graph(random, 40),
-                random_graph(random, 9),
-            ];
+            let parts = [random_graph(random, 20), random_graph(random, 40), random_graph(random, 9)];
             let graph = side_by_side(&parts);
             shuffled(random, &graph)
         }

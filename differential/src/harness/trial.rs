@@ -1,21 +1,45 @@
 //! All calls on one sheet.
 use super::calls::Caller;
 use super::known::{Facts, Known, Total};
-use super::{cycles, damage, Difference};
+use super::{cycles, damage, put, Difference};
 use differential::graph::Graph;
 use differential::placing::{is_matching, Answers, TOP};
 use differential::random::Random;
 use differential::sheets::random_hanging;
 use differential::{brute, DRAWING, LAST};
+use std::ops::AddAssign;
 
-/// How many calls were compared.
-pub type Calls = u64;
+/// How much was compared.
+#[derive(Clone, Copy, Default)]
+pub struct Tally {
+    pub sheets: u64,
+    /// Those of the sheets that aren't well-formed.
+    pub refused: u64,
+    /// Those that have no reading.
+    pub unsolvable: u64,
+    pub calls: u64,
+}
+
+impl Tally {
+    /// Of one sheet, no call made.
+    pub fn of(known: &Known) -> Tally {
+        let refused = u64::from(known.facts.is_err());
+        let unsolvable = u64::from(known.facts.as_ref().is_ok_and(|facts| !facts.solvable));
+        Tally { sheets: 1, refused, unsolvable, calls: 0 }
+    }
+}
+
+impl AddAssign for Tally {
+    fn add_assign(&mut self, other: Tally) {
+        self.sheets += other.sheets;
+        self.refused += other.refused;
+        self.unsolvable += other.unsolvable;
+        self.calls += other.calls;
+    }
+}
 
 /// Placings of a sheet that is tiny enough to try them all.
 const TINY: usize = 2500;
-
-/// Calls for a reading walk from the first one, so long lists are not asked for throughout.
-const CHEAP: u64 = 3000;
 
 /// How many readings of a sheet are listed: few most times, some hundred now and then.
 fn wanted(random: &mut Random) -> usize {
@@ -37,9 +61,10 @@ pub fn known(bytes: &[u8], wanted: usize) -> Result<Known, Difference> {
 }
 
 /// All calls on any bytes, damaged or not.
-pub fn try_any(random: &mut Random, bytes: &[u8]) -> Result<Calls, Difference> {
+pub fn try_any(random: &mut Random, bytes: &[u8]) -> Result<Tally, Difference> {
     let known = known(bytes, wanted(random))?;
     let mut caller = Caller::new(&known, random);
+    put::numbers(&mut caller)?;
     match &known.facts {
         Err(_) => refused(&mut caller)?,
         Ok(facts) => {
@@ -51,33 +76,22 @@ pub fn try_any(random: &mut Random, bytes: &[u8]) -> Result<Calls, Difference> {
             cycles_of(&mut caller, facts)?;
         }
     }
-    Ok(caller.calls)
+    Ok(caller.tally)
 }
 
 /// All calls on damaged forms of the sheet.
-pub fn try_damaged(random: &mut Random, bytes: &[u8], times: usize) -> Result<Calls, Difference> {
-    let mut calls = 0;
+pub fn try_damaged(random: &mut Random, bytes: &[u8], times: usize) -> Result<Tally, Difference> {
+    let mut tally = Tally::default();
     for _ in 0..times {
-        let damaged = if random.once_in(8) {
-            damage::noise(random)
-        } else {
-            damage::damaged(random, bytes)
-        };
-        calls += try_any(random, &damaged)?;
+        let damaged = if random.once_in(8) { damage::noise(random) } else { damage::damaged(random, bytes) };
+        tally += try_any(random, &damaged)?;
     }
-    Ok(calls)
+    Ok(tally)
 }
 
 /// Buffer lengths around a limit, and some others.
 fn lengths(random: &mut Random, limit: usize) -> [usize; 6] {
-    [
-        0,
-        limit.saturating_sub(1),
-        limit,
-        limit + 1,
-        random.below(limit + 1),
-        limit + random.below(300),
-    ]
+    [0, limit.saturating_sub(1), limit, limit + 1, random.below(limit + 1), limit + random.below(300)]
 }
 
 /// A sheet that isn't well-formed: each call gives its number, whatever is lent.
@@ -141,23 +155,12 @@ fn in_turn(caller: &mut Caller, facts: &Facts) -> Result<(), Difference> {
 /// The count, and forged places and numbers.
 fn numbers(caller: &mut Caller, facts: &Facts) -> Result<(), Difference> {
     let enough = 2 * facts.nodes();
-    let mut forged = vec![
-        LAST,
-        LAST + 1,
-        u64::MAX,
-        u64::MAX - 1,
-        1 << 32,
-        (1 << 32) + 1,
-        1 << 63,
-        caller.random.word(),
-    ];
-    let cheap = matches!(facts.total, Total::Exactly(count) if count <= CHEAP);
-    if let Total::Exactly(count) = facts.total {
-        if cheap {
-            forged.extend([count.saturating_sub(1), count, count + 1, count + 2, LAST - 1]);
-        }
+    let mut forged =
+        vec![LAST, LAST + 1, u64::MAX, u64::MAX - 1, 1 << 32, (1 << 32) + 1, 1 << 63, caller.random.word()];
+    if let Some(count) = facts.few() {
+        forged.extend([count.saturating_sub(1), count, count + 1, count + 2, LAST - 1]);
     }
-    if cheap || caller.random.once_in(16) {
+    if facts.few().is_some() || caller.random.once_in(16) {
         caller.count()?;
     }
     forged.push(caller.random.below(facts.readings.len() + 1) as u64);
@@ -186,11 +189,7 @@ fn moved(random: &mut Random, graph: &Graph, placing: &[u8]) -> Vec<u8> {
 fn placings(caller: &mut Caller, facts: &Facts) -> Result<(), Difference> {
     let nodes = facts.nodes();
     for reading in facts.readings.iter().take(20) {
-        let sure = Answers {
-            solved: true,
-            configuration: is_matching(reading),
-            reading: true,
-        };
+        let sure = Answers { solved: true, configuration: is_matching(reading), reading: true };
         caller.check_placing_for(reading, Ok(sure))?;
         let near = moved(caller.random, &facts.graph, reading);
         caller.check_placing(&near)?;
@@ -287,8 +286,6 @@ fn cycles_of(caller: &mut Caller, facts: &Facts) -> Result<(), Difference> {
         let any = cycles::any(caller.random, nodes);
         caller.check_cycle(&any)?;
     }
-    let long: Vec<u8> = (0..caller.random.between(200, 700))
-        .map(|_| caller.random.byte())
-        .collect();
+    let long: Vec<u8> = (0..caller.random.between(200, 700)).map(|_| caller.random.byte()).collect();
     caller.check_cycle(&long)
 }
