@@ -1,0 +1,128 @@
+//! The sheets.
+use differential::fragments;
+use differential::graph::{Graph, Node};
+use differential::random::Random;
+use differential::sheet;
+use differential::sheets::{chain, random_graph, renumbered, side_by_side};
+
+pub struct Case {
+    pub name: String,
+    pub sheet: Vec<u8>,
+}
+
+fn graph(nodes: usize, tree: &[(Node, Node)], dominance: &[(Node, Node)]) -> Graph {
+    let mut parent = vec![None; nodes];
+    for &(above, child) in tree {
+        parent[child] = Some(above);
+    }
+    Graph { parent, dominance: dominance.to_vec() }
+}
+
+fn chains() -> Vec<Case> {
+    (3..=10).map(|length| Case { name: format!("chain of {length}"), sheet: chain(length) }).collect()
+}
+
+/// Sheets of all kinds with some hundreds or thousands of readings.
+fn random_sheets() -> Vec<Case> {
+    let mut random = Random::new(14);
+    let mut cases = Vec::new();
+    for (nodes, fewest, most) in
+        [(24, 100, 500), (40, 500, 3000), (64, 1000, 9000), (100, 5000, 30_000), (128, 20_000, 65_535)]
+    {
+        let (graph, count) = loop {
+            let graph = random_graph(&mut random, nodes);
+            match fragments::count(&graph, 5000) {
+                Some(count) if (fewest..=most).contains(&count) && 4 * graph.nodes() > 3 * nodes => {
+                    break (graph, count)
+                }
+                _ => continue,
+            }
+        };
+        let name = format!("random, {} nodes and {} edges, {count} readings", graph.nodes(), graph.dominance.len());
+        cases.push(Case { name, sheet: sheet::tidy(&graph) });
+    }
+    cases
+}
+
+/// A fragment with two leaves above one root: no reading, and no directed cycle that shows it.
+fn fork() -> Graph {
+    graph(5, &[(0, 1), (0, 2), (3, 4)], &[(1, 3), (2, 3)])
+}
+
+/// The recursion finds the fork only when it has listed the chain, as often as the chain has readings.
+fn refused() -> Vec<Case> {
+    let lengths = [0, 6, 8, 10, 12, 14];
+    let beside = |length: usize| match sheet::read(&chain(length)) {
+        Ok(chain) if length > 0 => side_by_side(&[chain, fork()]),
+        _ => fork(),
+    };
+    let name = |length| format!("refused, fork beside a chain of {length}");
+    lengths.iter().map(|&length| Case { name: name(length), sheet: sheet::tidy(&beside(length)) }).collect()
+}
+
+/// P with leaves p, p' and Q with leaf q, both above V and W: p and q above V, p' and q above W. There is one reading, Q on top;
+/// the half with P above Q has no solved form, which only the choice at W shows.
+fn gadget() -> Graph {
+    let (p, q, v, w) = (0, 3, 5, 7);
+    let tree = [(p, p + 1), (p, p + 2), (q, q + 1), (v, v + 1), (w, w + 1)];
+    graph(9, &tree, &[(p + 1, v), (p + 2, w), (q + 1, v), (q + 1, w)])
+}
+
+/// So many of them, numbered so that all choices at a V come before all at a W: the recursion goes into both halves of each.
+fn dying_halves(gadgets: usize) -> Graph {
+    let whole = side_by_side(&(0..gadgets).map(|_| gadget()).collect::<Vec<Graph>>());
+    let mut names = vec![0; whole.nodes()];
+    let mut next = 0;
+    for part in [5..7, 0..5, 7..9] {
+        for gadget in 0..gadgets {
+            for node in part.clone() {
+                names[9 * gadget + node] = next;
+                next += 1;
+            }
+        }
+    }
+    renumbered(&whole, &names)
+}
+
+fn halves() -> Vec<Case> {
+    let case = |gadgets| Case {
+        name: format!("halves that die, {gadgets} gadgets"),
+        sheet: sheet::tidy(&dying_halves(gadgets)),
+    };
+    [2, 4, 6, 8, 10, 12, 14].into_iter().map(case).collect()
+}
+
+pub fn all() -> Vec<Case> {
+    [chains(), random_sheets(), refused(), halves()].into_iter().flatten().collect()
+}
+
+#[cfg(test)]
+mod tests {
+    use crate::{free, lines, plain};
+    use differential::listing::{first, Leave};
+    use differential::{sheet, LAST};
+
+    /// Both ways list what the second implementation lists, in its order and in another.
+    #[test]
+    fn the_ways_agree() {
+        for case in super::all() {
+            let (plain, free) = (plain::list(&case.sheet), free::list(&case.sheet));
+            assert_eq!(lines::compare(&plain, &plain, &free), Ok(()), "{}", case.name);
+            let counts = (plain::count(&case.sheet, LAST + 1), free::count(&case.sheet, LAST + 1));
+            assert_eq!(counts.0, counts.1, "{}", case.name);
+            let graph = sheet::read(&case.sheet).unwrap();
+            if let Ok(readings) = first(&graph, 2000, Leave::Cyclic, 5000) {
+                assert_eq!(counts.0.min(2000), readings.len() as u64, "{}", case.name);
+            }
+        }
+    }
+
+    #[test]
+    fn refused_sheets_are_refused_alike() {
+        for bytes in [&[][..], &[5], &[1, 2, 0], &[1, 2, 2, 0, 1, 3, 1, 0, 0]] {
+            assert_eq!(plain::list(bytes), free::list(bytes));
+        }
+        assert_eq!(plain::list(&[5]), b"refused 2\n");
+        assert_eq!(plain::list(&[1, 2, 2, 0, 1, 3, 1, 0, 0]), b"refused 9\n");
+    }
+}

@@ -1,0 +1,79 @@
+//! Programs as processes, and the median of several runs.
+use std::hint::black_box;
+use std::io::{Read, Write};
+use std::path::{Path, PathBuf};
+use std::process::{Command, Stdio};
+use std::time::{Duration, Instant};
+
+/// A program that takes a sheet on standard input and prints its list.
+pub struct Program {
+    pub path: PathBuf,
+    pub arguments: Vec<String>,
+}
+
+/// What one run cost.
+#[derive(Clone, Copy)]
+pub enum Run {
+    Time(Duration),
+    Instructions(Option<u64>),
+}
+
+impl Program {
+    /// Ours, the recursion, free fragments.
+    pub fn all(readings: &str) -> Result<[Program; 3], String> {
+        if !Path::new(readings).exists() {
+            return Err(format!("{readings} is not there: `rt check readings` makes it"));
+        }
+        let this = std::env::current_exe().map_err(|why| why.to_string())?;
+        let way = |way: &str| Program { path: this.clone(), arguments: vec!["list".to_string(), way.to_string()] };
+        Ok([Program { path: PathBuf::from(readings), arguments: Vec::new() }, way("plain"), way("free")])
+    }
+
+    pub fn command(&self) -> Command {
+        let mut command = Command::new(&self.path);
+        command.args(&self.arguments);
+        command
+    }
+
+    /// What the program prints; nothing where it can't be run.
+    pub fn output(&self, sheet: &[u8]) -> Vec<u8> {
+        run(self.command(), sheet).map(|(out, _)| out).unwrap_or_default()
+    }
+}
+
+/// Runs a command on a sheet: standard output and standard error.
+pub fn run(mut command: Command, sheet: &[u8]) -> std::io::Result<(Vec<u8>, Vec<u8>)> {
+    let mut child = command.stdin(Stdio::piped()).stdout(Stdio::piped()).stderr(Stdio::piped()).spawn()?;
+    if let Some(mut input) = child.stdin.take() {
+        input.write_all(sheet)?;
+    }
+    let (mut out, mut errors) = (Vec::new(), Vec::new());
+    if let Some(mut from) = child.stdout.take() {
+        from.read_to_end(&mut out)?;
+    }
+    if let Some(mut from) = child.stderr.take() {
+        from.read_to_end(&mut errors)?;
+    }
+    child.wait()?;
+    Ok((out, errors))
+}
+
+/// The median times of so many runs of each way, in turn so that a busy machine slows all alike, after two that warm up.
+pub fn medians<T, const N: usize>(repeat: usize, ways: [&dyn Fn() -> T; N]) -> [Duration; N] {
+    for _ in 0..2 {
+        ways.iter().for_each(|way| drop(black_box(way())));
+    }
+    let mut times: [Vec<Duration>; N] = std::array::from_fn(|_| Vec::with_capacity(repeat));
+    for _ in 0..repeat {
+        for (way, times) in ways.iter().zip(&mut times) {
+            let start = Instant::now();
+            let answer = black_box(way());
+            times.push(start.elapsed());
+            drop(answer);
+        }
+    }
+    times.map(|mut times| {
+        times.sort_unstable();
+        times[repeat / 2]
+    })
+}

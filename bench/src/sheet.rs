@@ -1,0 +1,34 @@
+//! A well-formed sheet as the two ways want it: fragments by ascending root, leaves by ascending number.
+use differential::sheet;
+use differential::Refused;
+
+/// The most fragments and leaves that a sheet has.
+pub const FRAGMENTS: usize = 64;
+pub const LEAVES: usize = 127;
+
+pub struct Sheet {
+    /// The root of each fragment.
+    pub roots: Vec<u8>,
+    /// The number of each leaf.
+    pub leaves: Vec<u8>,
+    /// The fragment of each leaf.
+    pub owner: Vec<u8>,
+    /// The dominance edges, by the places of leaf and fragment.
+    pub edges: Vec<(u8, u8)>,
+}
+
+impl Sheet {
+    pub fn read(bytes: &[u8]) -> Result<Sheet, Refused> {
+        let graph = sheet::read(bytes)?;
+        let (roots, leaves) = (graph.roots(), graph.leaves());
+        let place = |nodes: &[usize], node: usize| nodes.binary_search(&node).unwrap_or_default() as u8;
+        let owner = leaves.iter().map(|&leaf| place(&roots, graph.root_of(leaf))).collect();
+        let edges = graph.dominance.iter().map(|&(leaf, root)| (place(&leaves, leaf), place(&roots, root))).collect();
+        Ok(Sheet {
+            owner,
+            edges,
+            roots: roots.iter().map(|&root| root as u8).collect(),
+            leaves: leaves.iter().map(|&leaf| leaf as u8).collect(),
+        })
+    }
+}
