@@ -90,6 +90,33 @@ impl<'a> Caller<'a> {
         Ok(to)
     }
 
+    /// The readings after a place, as many as fit: the place handed back.
+    pub fn fill(&mut self, place: u64, room: usize) -> Result<u64, Difference> {
+        let Some(wanted) = self.known.fill(place, room) else {
+            return Ok(place);
+        };
+        let mut lent = Lent::new(self.random, room);
+        let mut moved = Place::after(place);
+        let given = moved.fill(self.sheet.lend(), lent.lend_mut());
+        let readings = match &wanted {
+            Placed::Done(placings) => 2 * placings.len() / self.known.room(),
+            _ => 0,
+        };
+        let to = place + readings as u64;
+        let answer = given.map(|_| ());
+        let right = self.is_placed(&wanted, &Seen { lent: &lent, answer })
+            && given.map_or(true, |given| given == readings)
+            && moved.number() == to;
+        let call = format!("readings after place {place}, {room} bytes lent");
+        if right {
+            // These lists are long, and put into words only where they differ.
+            self.told(true, &call, (), ())?;
+        } else {
+            self.told(false, &call, (wanted, to), (given, moved.number(), hex(lent.lend())))?;
+        }
+        Ok(to)
+    }
+
     /// The configuration; what was written.
     pub fn configuration(&mut self, room: usize) -> Result<Vec<u8>, Difference> {
         let Some(wanted) = self.known.configuration(room) else {

@@ -32,11 +32,13 @@ pub fn sheets(random: &mut Random) -> Vec<Vec<u8>> {
     vec![beside([READINGS_217, READINGS_302]), beside([READINGS_771, READINGS_85]), power, chain(12)]
 }
 
-/// The count, and the readings around the last number.
+/// The count, the whole list, and the readings around the last number.
 pub fn try_deep(random: &mut Random, bytes: &[u8]) -> Result<Tally, Difference> {
     let known = known(bytes, LAST as usize + 1)?;
     let mut caller = Caller::new(&known, random);
     caller.count()?;
+    // The whole list, and room for one more.
+    caller.fill(0, (LAST as usize + 1) * known.room() / 2)?;
     for place in [LAST - 1, LAST] {
         caller.reading(place, known.room())?;
         caller.drawing(place + 1, DRAWING)?;

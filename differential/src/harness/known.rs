@@ -105,6 +105,14 @@ impl Facts {
             _ => None,
         }
     }
+
+    /// The readings after a place, so many at most; none where the list was not worked out so far.
+    fn stretch(&self, place: u64, most: u64) -> Option<&[Vec<u8>]> {
+        let listed = self.readings.len() as u64;
+        let last = place.saturating_add(most);
+        (last <= listed || self.total == Total::Exactly(listed))
+            .then(|| &self.readings[place as usize..last.min(listed) as usize])
+    }
 }
 
 impl Known {
@@ -147,6 +155,17 @@ impl Known {
         self.placed(room, |facts| match facts.reading(u128::from(place) + 1)? {
             Ok(reading) => Some(Placed::Done(reading.to_vec())),
             Err(refused) => Some(Placed::Refused(refused)),
+        })
+    }
+
+    /// The readings after a place, as many as are left and as there is room for.
+    pub fn fill(&self, place: u64, room: usize) -> Option<Placed> {
+        self.placed(room, |facts| {
+            let fitting = (room / facts.nodes()) as u64;
+            match facts.reading(u128::from(place) + 1)? {
+                Err(refused) => Some(Placed::Refused(refused)),
+                Ok(_) => Some(Placed::Done(facts.stretch(place, fitting.min(LAST - place))?.concat())),
+            }
         })
     }
 

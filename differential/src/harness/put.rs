@@ -57,6 +57,17 @@ fn placed(caller: &mut Caller) -> Compared {
         };
         caller.told(given == wanted, "bixtogan_reading, place and number put", wanted, given)?;
     }
+    if let Some(wanted) = caller.known.fill(place, room) {
+        let mut lent = Lent::new(caller.random, room);
+        let given = raw::readings(caller.sheet.lend(), place, lent.lend_mut(), before);
+        let pairs = wanted_pairs(caller, &wanted, &lent, given.1 .1, before);
+        let wanted = match wanted {
+            Placed::Done(placings) => (0, (place + 2 * placings.len() as u64 / caller.known.room() as u64, pairs)),
+            Placed::Cycle => (9, (place, pairs)),
+            Placed::Refused(refused) => (refused, (place, pairs)),
+        };
+        caller.told(given == wanted, "bixtogan_readings, place and number put", wanted, given)?;
+    }
     if let Some(wanted) = caller.known.configuration(room) {
         let mut lent = Lent::new(caller.random, room);
         let given = raw::configuration(caller.sheet.lend(), lent.lend_mut(), before);

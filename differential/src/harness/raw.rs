@@ -12,6 +12,14 @@ mod foreign {
             room: usize,
             pairs: &mut u64,
         ) -> u8;
+        pub fn bixtogan_readings(
+            sheet: *const u8,
+            length: usize,
+            place: &mut u64,
+            out: *mut u8,
+            room: usize,
+            pairs: &mut u64,
+        ) -> u8;
         pub fn bixtogan_configuration(
             sheet: *const u8,
             length: usize,
@@ -59,6 +67,12 @@ pub fn count(sheet: &[u8], mut readings: u64) -> Told<u64> {
 pub fn reading(sheet: &[u8], mut place: u64, out: &mut [u8], mut pairs: u64) -> Told<(u64, u64)> {
     let (at, room) = (out.as_mut_ptr(), out.len());
     let returned = unsafe { foreign::bixtogan_reading(sheet.as_ptr(), sheet.len(), &mut place, at, room, &mut pairs) };
+    (returned, (place, pairs))
+}
+
+pub fn readings(sheet: &[u8], mut place: u64, out: &mut [u8], mut pairs: u64) -> Told<(u64, u64)> {
+    let (at, room) = (out.as_mut_ptr(), out.len());
+    let returned = unsafe { foreign::bixtogan_readings(sheet.as_ptr(), sheet.len(), &mut place, at, room, &mut pairs) };
     (returned, (place, pairs))
 }
 

@@ -41,14 +41,17 @@ impl AddAssign for Tally {
 /// Placings of a sheet that is tiny enough to try them all.
 const TINY: usize = 2500;
 
-/// How many readings of a sheet are listed: few most times, some hundred now and then.
+/// How many readings of a sheet are worked out: few most times, hundreds or thousands now and then.
 fn wanted(random: &mut Random) -> usize {
-    if random.once_in(12) {
-        300
-    } else {
-        24
+    match random.below(40) {
+        0 => 3000,
+        1..=3 => 300,
+        _ => 24,
     }
 }
+
+/// How many of them are asked for one by one, since each call walks from the first.
+const IN_TURN: u64 = 200;
 
 /// The sheet's facts; a difference where the ways to solve it part.
 pub fn known(bytes: &[u8], wanted: usize) -> Result<Known, Difference> {
@@ -70,6 +73,7 @@ pub fn try_any(random: &mut Random, bytes: &[u8]) -> Result<Tally, Difference> {
         Ok(facts) => {
             writing(&mut caller, facts)?;
             in_turn(&mut caller, facts)?;
+            several_in_turn(&mut caller, facts)?;
             numbers(&mut caller, facts)?;
             placings(&mut caller, facts)?;
             all_placings(&mut caller, facts)?;
@@ -100,6 +104,7 @@ fn refused(caller: &mut Caller) -> Result<(), Difference> {
     for room in [0, caller.random.below(40), 256] {
         let place = caller.random.word();
         caller.reading(place, room)?;
+        caller.fill(place, room)?;
         caller.configuration(room)?;
         caller.tidy(room)?;
         caller.fragments(room)?;
@@ -117,6 +122,7 @@ fn refused(caller: &mut Caller) -> Result<(), Difference> {
 fn writing(caller: &mut Caller, facts: &Facts) -> Result<(), Difference> {
     for room in lengths(caller.random, 2 * facts.nodes()) {
         caller.reading(0, room)?;
+        caller.fill(0, room)?;
         caller.configuration(room)?;
     }
     for room in lengths(caller.random, DRAWING) {
@@ -132,21 +138,51 @@ fn writing(caller: &mut Caller, facts: &Facts) -> Result<(), Difference> {
     Ok(())
 }
 
-/// A list of reading calls, some of them lent too little, past the end of the readings.
+/// Some room for readings: too little, just enough for one call, or more.
+fn some_room(random: &mut Random, enough: usize) -> usize {
+    match random.below(4) {
+        0 => random.below(enough),
+        1 => enough + random.below(64),
+        _ => enough,
+    }
+}
+
+/// A list of reading calls, some of them lent too little, past the end of the readings where they are few.
 fn in_turn(caller: &mut Caller, facts: &Facts) -> Result<(), Difference> {
-    // The call that takes `fill` (readings after a place, as many as fit) belongs here, beside this list and held against it.
-    let enough = 2 * facts.nodes();
+    let listed = IN_TURN.min(facts.readings.len() as u64);
     let mut place = 0;
     let mut after_the_end = 0;
-    while place < facts.readings.len() as u64 || after_the_end < 3 {
-        let room = match caller.random.below(4) {
-            0 => caller.random.below(enough),
-            1 => enough + caller.random.below(64),
-            _ => enough,
-        };
+    while place < listed || after_the_end < 3 {
+        let room = some_room(caller.random, 2 * facts.nodes());
         place = caller.reading(place, room)?;
-        if place >= facts.readings.len() as u64 {
-            after_the_end += 1;
+        after_the_end += u64::from(place >= listed);
+    }
+    Ok(())
+}
+
+/// The same by calls that hand out several readings each, and all at once.
+fn several_in_turn(caller: &mut Caller, facts: &Facts) -> Result<(), Difference> {
+    let nodes = facts.nodes();
+    let listed = facts.readings.len();
+    let mut place = 0;
+    let mut stays = 0;
+    // A place stays after the last reading, where too little is lent, and where no call is made since what it would hand out
+    // was not worked out.
+    while stays < 4 {
+        let readings = caller.random.below(listed / 4 + 8);
+        let room = some_room(caller.random, 2 * nodes) + readings * nodes;
+        let to = caller.fill(place, room)?;
+        stays = if to == place { stays + 1 } else { 0 };
+        place = to;
+    }
+    for readings in [listed.saturating_sub(1), listed, listed + 1] {
+        caller.fill(0, readings * nodes)?;
+        caller.fill(0, readings * nodes + nodes - 1)?;
+    }
+    for place in [listed as u64, LAST - 1, LAST, u64::MAX] {
+        if facts.few().is_some() || place >= LAST {
+            let room = some_room(caller.random, 4 * nodes);
+            caller.fill(place, room)?;
         }
     }
     Ok(())
