@@ -98,31 +98,25 @@ pub fn all() -> Vec<Case> {
 
 #[cfg(test)]
 mod tests {
-    use crate::{free, lines, plain};
-    use differential::listing::{first, Leave};
-    use differential::{sheet, LAST};
+    use crate::{calls, lines, printed};
 
-    /// Both ways list what the second implementation lists, in its order and in another.
+    /// Text, placings and counts are the same, on every case.
     #[test]
     fn the_ways_agree() {
         for case in super::all() {
-            let (plain, free) = (plain::list(&case.sheet), free::list(&case.sheet));
-            assert_eq!(lines::compare(&plain, &plain, &free), Ok(()), "{}", case.name);
-            let counts = (plain::count(&case.sheet, LAST + 1), free::count(&case.sheet, LAST + 1));
-            assert_eq!(counts.0, counts.1, "{}", case.name);
-            let graph = sheet::read(&case.sheet).unwrap();
-            if let Ok(readings) = first(&graph, 2000, Leave::Cyclic, 5000) {
-                assert_eq!(counts.0.min(2000), readings.len() as u64, "{}", case.name);
-            }
+            let [recursion, free] = ["recursion", "free"].map(|way| printed(way, &case.sheet).unwrap());
+            assert_eq!(lines::compare(&recursion, &recursion, &free), Ok(()), "{}", case.name);
+            calls::agree(&case).unwrap();
         }
     }
 
     #[test]
     fn refused_sheets_are_refused_alike() {
-        for bytes in [&[][..], &[5], &[1, 2, 0], &[1, 2, 2, 0, 1, 3, 1, 0, 0]] {
-            assert_eq!(plain::list(bytes), free::list(bytes));
+        for (bytes, text) in
+            [(&[][..], "refused 1\n"), (&[5], "refused 2\n"), (&[1, 2, 2, 0, 1, 3, 1, 0, 0], "refused 9\n")]
+        {
+            let [recursion, free] = ["recursion", "free"].map(|way| printed(way, bytes).unwrap());
+            assert_eq!((&recursion[..], &free[..]), (text.as_bytes(), text.as_bytes()));
         }
-        assert_eq!(plain::list(&[5]), b"refused 2\n");
-        assert_eq!(plain::list(&[1, 2, 2, 0, 1, 3, 1, 0, 0]), b"refused 9\n");
     }
 }

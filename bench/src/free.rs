@@ -1,7 +1,6 @@
 //! Free fragments, as today's solvers take them: a connected part is split by each fragment that can stand on top of it, the
 //! parts that are left hang under its leaves, and each part is split only once (a chart). The list is read off the chart.
-use crate::lines::{refused, Lines, TOP};
-use crate::sheet::{Sheet, FRAGMENTS, LEAVES};
+use crate::sheet::{Readings, Sheet, FRAGMENTS, LEAVES, TOP};
 use std::collections::HashMap;
 
 /// A set of fragments.
@@ -150,21 +149,20 @@ impl<'a> Chart<'a> {
 }
 
 /// The readings, read off the chart.
-struct Walk<'a> {
+struct Walk<'a, R> {
     chart: &'a Chart<'a>,
     fragments: usize,
     hanging: [u8; FRAGMENTS],
     /// Parts that are still to be hung.
     agenda: Vec<Below>,
-    lines: Lines,
+    readings: &'a mut R,
 }
 
-impl Walk<'_> {
+impl<R: Readings> Walk<'_, R> {
     /// Leaves the agenda as it was.
     fn step(&mut self) {
         let Some(next) = self.agenda.pop() else {
-            self.lines.push(self.hanging[..self.fragments].iter().copied());
-            return;
+            return self.readings.push(self.hanging[..self.fragments].iter().copied());
         };
         let chart = self.chart;
         let open = self.agenda.len();
@@ -173,7 +171,7 @@ impl Walk<'_> {
             self.agenda.extend_from_slice(&chart.below[split.from as usize..split.to as usize]);
             self.step();
             self.agenda.truncate(open);
-            if self.lines.is_full() {
+            if self.readings.is_full() {
                 break;
             }
         }
@@ -181,33 +179,19 @@ impl Walk<'_> {
     }
 }
 
-/// The printed list, in the chart's order.
-pub fn list(bytes: &[u8]) -> Vec<u8> {
-    let sheet = match Sheet::read(bytes) {
-        Ok(sheet) => sheet,
-        Err(number) => return refused(number),
-    };
-    let mut chart = Chart::new(&sheet);
-    let Ok(whole) = chart.whole() else {
-        return refused(9);
-    };
-    let mut walk = Walk {
-        chart: &chart,
-        fragments: sheet.roots.len(),
-        hanging: [TOP; FRAGMENTS],
-        agenda: whole.into_iter().map(|part| Below { leaf: TOP, part }).collect(),
-        lines: Lines::new(&sheet),
-    };
-    walk.step();
-    walk.lines.finish()
+/// The readings in the chart's order.
+pub fn list(sheet: &Sheet, readings: &mut impl Readings) {
+    let mut chart = Chart::new(sheet);
+    if let Ok(whole) = chart.whole() {
+        let agenda = whole.into_iter().map(|part| Below { leaf: TOP, part }).collect();
+        let fragments = sheet.roots.len();
+        Walk { chart: &chart, fragments, hanging: [TOP; FRAGMENTS], agenda, readings }.step();
+    }
 }
 
-/// How many readings there are, up to a number.
-pub fn count(bytes: &[u8], most: u64) -> u64 {
-    let Ok(sheet) = Sheet::read(bytes) else {
-        return 0;
-    };
-    let mut chart = Chart::new(&sheet);
+/// How many readings there are, without listing them.
+pub fn count(sheet: &Sheet) -> u64 {
+    let mut chart = Chart::new(sheet);
     let Ok(whole) = chart.whole() else {
         return 0;
     };
@@ -221,5 +205,5 @@ pub fn count(bytes: &[u8], most: u64) -> u64 {
         let count = splits.iter().fold(0, |sum: u64, split| sum.saturating_add(product(split)));
         counts.push(count);
     }
-    whole.iter().fold(1, |product: u64, &part| product.saturating_mul(counts[part as usize])).min(most)
+    whole.iter().fold(1, |product: u64, &part| product.saturating_mul(counts[part as usize]))
 }

@@ -1,10 +1,7 @@
 //! The printed list, written by both other ways alike.
-use crate::sheet::Sheet;
+use crate::sheet::{Readings, Sheet, TOP};
 use differential::{Refused, LAST};
 use std::collections::BTreeSet;
-
-/// In a hanging: a fragment on top.
-pub const TOP: u8 = 255;
 
 /// Lines of readings, as many as are printed.
 pub struct Lines {
@@ -30,11 +27,6 @@ impl Lines {
         }
     }
 
-    /// Whether the count is beyond the exact ones, and no further line is printed.
-    pub fn is_full(&self) -> bool {
-        self.count > LAST
-    }
-
     /// The number's next value, figure by figure.
     fn step(&mut self) {
         let mut at = self.number.len() - 1;
@@ -44,21 +36,6 @@ impl Lines {
         }
         self.number[at] += 1;
         self.figures = self.figures.max(self.number.len() - at);
-    }
-
-    /// One more reading: the leaf's place for each fragment, or top.
-    pub fn push(&mut self, hanging: impl Iterator<Item = u8>) {
-        self.count += 1;
-        if self.is_full() {
-            return;
-        }
-        self.step();
-        self.text.extend_from_slice(&self.number[self.number.len() - self.figures..]);
-        for (root, leaf) in self.roots.iter().zip(hanging).filter(|&(_, leaf)| leaf != TOP) {
-            self.text.extend_from_slice(root);
-            self.text.extend_from_slice(&self.leaves[usize::from(leaf)]);
-        }
-        self.text.push(b'\n');
     }
 
     /// The whole list, line 1 before the others.
@@ -72,6 +49,27 @@ impl Lines {
         };
         text.extend_from_slice(&self.text);
         text
+    }
+}
+
+impl Readings for Lines {
+    fn push(&mut self, hanging: impl Iterator<Item = u8>) {
+        self.count += 1;
+        if self.is_full() {
+            return;
+        }
+        self.step();
+        self.text.extend_from_slice(&self.number[self.number.len() - self.figures..]);
+        for (root, leaf) in self.roots.iter().zip(hanging).filter(|&(_, leaf)| leaf != TOP) {
+            self.text.extend_from_slice(root);
+            self.text.extend_from_slice(&self.leaves[usize::from(leaf)]);
+        }
+        self.text.push(b'\n');
+    }
+
+    /// The reading after the last printed one is counted: it makes the count "more".
+    fn is_full(&self) -> bool {
+        self.count > LAST
     }
 }
 

@@ -1,29 +1,34 @@
 //! The list of readings, timed beside two other ways to make it: Section 5's recursion with its directed-cycle test, and free
-//! fragments with a chart. All three list into memory, as the program `readings` prints it, in processes of the same kind.
+//! fragments with a chart, which is how today's solvers go about it. Each table checks first that the three agree.
+mod calls;
 mod cases;
 mod free;
 mod instructions;
 mod lines;
 mod measure;
+mod placings;
 mod plain;
 mod sheet;
 mod table;
 
 use cases::Case;
-use measure::{Program, Run};
+use lines::Lines;
+use measure::Program;
+use sheet::Sheet;
 use std::io::{Read, Write};
 use std::process::ExitCode;
+use table::{microseconds, milliseconds};
 
 const USAGE: &str = "\
 usage: bench [--repeat N] [--readings PATH] [--instructions] [--family WORD]
   --repeat N       runs of which the median is taken (default 15)
   --readings PATH  our program (default target/bin/readings)
-  --instructions   instructions executed, by callgrind, in place of times
-  --family WORD    only the cases whose name begins with it
-       bench list plain|free < SHEET
+  --instructions   instructions executed by the programs, by callgrind, in place of times
+  --family WORD    only the cases whose name begins with it: chain, random, refused, halves
+       bench list recursion|free < SHEET
 ";
 
-pub struct Options {
+struct Options {
     repeat: usize,
     readings: String,
     instructions: bool,
@@ -31,8 +36,8 @@ pub struct Options {
 }
 
 fn options(arguments: &[String]) -> Option<Options> {
-    let mut options =
-        Options { repeat: 15, readings: "target/bin/readings".to_string(), instructions: false, family: String::new() };
+    let readings = "target/bin/readings".to_string();
+    let mut options = Options { repeat: 15, readings, instructions: false, family: String::new() };
     let mut rest = arguments.iter();
     while let Some(name) = rest.next() {
         match name.as_str() {
@@ -46,44 +51,68 @@ fn options(arguments: &[String]) -> Option<Options> {
     Some(options)
 }
 
-/// Prints the list of the sheet on standard input, made in one of the other two ways.
+/// The printed list of a sheet, made in one of the other two ways.
+fn printed(way: &str, bytes: &[u8]) -> Option<Vec<u8>> {
+    let sheet = match Sheet::read(bytes) {
+        Ok(sheet) => sheet,
+        Err(number) => return Some(lines::refused(number)),
+    };
+    let mut lines = Lines::new(&sheet);
+    match way {
+        "recursion" => plain::list(&sheet, &mut lines),
+        "free" => free::list(&sheet, &mut lines),
+        _ => return None,
+    }
+    Some(lines.finish())
+}
+
+/// Prints the list of the sheet on standard input.
 fn list(way: &str) -> Option<()> {
     let mut bytes = Vec::new();
     std::io::stdin().read_to_end(&mut bytes).ok()?;
-    let text = match way {
-        "plain" => plain::list(&bytes),
-        "free" => free::list(&bytes),
-        _ => return None,
-    };
-    std::io::stdout().write_all(&text).ok()
+    std::io::stdout().write_all(&printed(way, &bytes)?).ok()
 }
 
-/// Runs the three programs on a case; an error where their lists differ.
-fn run(options: &Options, programs: &[Program; 3], case: &Case) -> Result<[Run; 3], String> {
-    let outputs = programs.each_ref().map(|program| program.output(&case.sheet));
-    let [ours, plain, free] = &outputs;
-    lines::compare(ours, plain, free).map_err(|why| format!("{}: {why}", case.name))?;
-    if options.instructions {
-        return Ok(programs.each_ref().map(|program| Run::Instructions(instructions::of(program, &case.sheet))));
-    }
+/// The programs on one case: what line 1 says, and what each of them takes.
+fn programs(options: &Options, programs: &[Program; 3], case: &Case) -> Result<(String, [Option<f64>; 3]), String> {
+    let [ours, recursion, free] = programs.each_ref().map(|program| program.output(&case.sheet));
+    lines::compare(&ours, &recursion, &free).map_err(|why| format!("{}: {why}", case.name))?;
     let run = |program: usize| programs[program].output(&case.sheet);
-    let ways: [&dyn Fn() -> Vec<u8>; 3] = [&|| run(0), &|| run(1), &|| run(2)];
-    Ok(measure::medians(options.repeat, ways).map(Run::Time))
+    let amounts = if options.instructions {
+        let millions = |instructions: u64| instructions as f64 / 1e6;
+        programs.each_ref().map(|program| instructions::of(program, &case.sheet).map(millions))
+    } else {
+        milliseconds(measure::medians(options.repeat, [&mut || run(0), &mut || run(1), &mut || run(2)]))
+    };
+    Ok((lines::count(&ours), amounts))
 }
 
-fn table(options: &Options) -> Result<(), String> {
-    let programs = Program::all(&options.readings)?;
-    table::heading(options.instructions);
-    for case in cases::all().iter().filter(|case| case.name.starts_with(&options.family)) {
-        let readings = lines::count(&programs[0].output(&case.sheet));
-        table::row(&case.name, &readings, &run(options, &programs, case)?);
+fn tables(options: &Options) -> Result<(), String> {
+    let cases: Vec<Case> = cases::all().into_iter().filter(|case| case.name.starts_with(&options.family)).collect();
+    let ways = Program::all(&options.readings)?;
+    let unit = if options.instructions { "millions of instructions" } else { "milliseconds" };
+    table::heading("The list as text, a process each", unit);
+    for case in &cases {
+        let (readings, amounts) = programs(options, &ways, case)?;
+        table::row(&case.name, &readings, amounts);
     }
-    // The list by calls through the bindings (`Place::fill`) belongs here, as a fourth column beside the programs.
-    if !options.instructions {
-        table::counts_heading();
-        for case in cases::all().iter().filter(|case| case.name.starts_with(&options.family)) {
-            table::counts_row(case, options.repeat)?;
-        }
+    if options.instructions {
+        return Ok(());
+    }
+    let readings: Vec<String> =
+        cases.iter().map(|case| Ok(calls::agree(case)?.to_string())).collect::<Result<_, String>>()?;
+    println!();
+    table::heading("The list as placings, a call each", "microseconds");
+    for (case, readings) in cases.iter().zip(&readings) {
+        table::row(&case.name, readings, microseconds(calls::lists(case, options.repeat)?));
+    }
+    println!();
+    table::heading(
+        "The count, a call each (the chart multiplies, the others walk through all readings)",
+        "microseconds",
+    );
+    for (case, readings) in cases.iter().zip(&readings) {
+        table::row(&case.name, readings, microseconds(calls::counts(case, options.repeat)));
     }
     Ok(())
 }
@@ -99,7 +128,7 @@ fn main() -> ExitCode {
         eprint!("{USAGE}");
         return ExitCode::from(2);
     };
-    match table(&options) {
+    match tables(&options) {
         Ok(()) => ExitCode::SUCCESS,
         Err(why) => {
             eprintln!("bench: {why}");

@@ -11,13 +11,6 @@ pub struct Program {
     pub arguments: Vec<String>,
 }
 
-/// What one run cost.
-#[derive(Clone, Copy)]
-pub enum Run {
-    Time(Duration),
-    Instructions(Option<u64>),
-}
-
 impl Program {
     /// Ours, the recursion, free fragments.
     pub fn all(readings: &str) -> Result<[Program; 3], String> {
@@ -26,7 +19,7 @@ impl Program {
         }
         let this = std::env::current_exe().map_err(|why| why.to_string())?;
         let way = |way: &str| Program { path: this.clone(), arguments: vec!["list".to_string(), way.to_string()] };
-        Ok([Program { path: PathBuf::from(readings), arguments: Vec::new() }, way("plain"), way("free")])
+        Ok([Program { path: PathBuf::from(readings), arguments: Vec::new() }, way("recursion"), way("free")])
     }
 
     pub fn command(&self) -> Command {
@@ -59,13 +52,13 @@ pub fn run(mut command: Command, sheet: &[u8]) -> std::io::Result<(Vec<u8>, Vec<
 }
 
 /// The median times of so many runs of each way, in turn so that a busy machine slows all alike, after two that warm up.
-pub fn medians<T, const N: usize>(repeat: usize, ways: [&dyn Fn() -> T; N]) -> [Duration; N] {
+pub fn medians<T, const N: usize>(repeat: usize, mut ways: [&mut dyn FnMut() -> T; N]) -> [Duration; N] {
     for _ in 0..2 {
-        ways.iter().for_each(|way| drop(black_box(way())));
+        ways.iter_mut().for_each(|way| drop(black_box(way())));
     }
     let mut times: [Vec<Duration>; N] = std::array::from_fn(|_| Vec::with_capacity(repeat));
     for _ in 0..repeat {
-        for (way, times) in ways.iter().zip(&mut times) {
+        for (way, times) in ways.iter_mut().zip(&mut times) {
             let start = Instant::now();
             let answer = black_box(way());
             times.push(start.elapsed());

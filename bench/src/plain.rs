@@ -1,7 +1,6 @@
 //! Section 5's recursion with its directed-cycle test, kept as the paper's Section 8.1 keeps it: the graph stays reduced, and an
 //! edge more drops just the edges that it makes redundant.
-use crate::lines::{refused, Lines, TOP};
-use crate::sheet::{Sheet, FRAGMENTS};
+use crate::sheet::{Readings, Sheet, FRAGMENTS, TOP};
 
 type Leaves = u128;
 type Fragments = u64;
@@ -61,77 +60,35 @@ impl Reduced {
     }
 }
 
-/// What is done with each reading; false ends the recursion.
-trait Readings {
-    fn found(&mut self, graph: &Reduced) -> bool;
-}
-
 struct Recursion<'a, R> {
     owner: &'a [u8],
     fragments: usize,
-    readings: R,
+    readings: &'a mut R,
 }
 
 impl<R: Readings> Recursion<'_, R> {
-    /// False where the recursion was ended.
-    fn enter(&mut self, graph: &mut Reduced) -> bool {
+    fn enter(&mut self, graph: &mut Reduced) {
         let Some((a, b)) = graph.choice(self.fragments) else {
-            return self.readings.found(graph);
+            let leaf = |leaves: &Leaves| if *leaves == 0 { TOP } else { leaves.trailing_zeros() as u8 };
+            return self.readings.push(graph.incoming[..self.fragments].iter().map(leaf));
         };
         let (owner_a, owner_b) = (usize::from(self.owner[usize::from(a)]), usize::from(self.owner[usize::from(b)]));
         let mut half = graph.clone();
-        if half.add(a, owner_a, owner_b) && !self.enter(&mut half) {
-            return false;
+        if half.add(a, owner_a, owner_b) {
+            self.enter(&mut half);
         }
         // The graph itself is not needed again, so the second half is made of it.
-        !graph.add(b, owner_b, owner_a) || self.enter(graph)
+        if !self.readings.is_full() && graph.add(b, owner_b, owner_a) {
+            self.enter(graph);
+        }
     }
 }
 
-fn recurse<R: Readings>(sheet: &Sheet, readings: R) -> R {
+/// The readings in document 01's order.
+pub fn list(sheet: &Sheet, readings: &mut impl Readings) {
     let mut graph = Reduced::without_edges();
-    let mut recursion = Recursion { owner: &sheet.owner, fragments: sheet.roots.len(), readings };
     let owner = |leaf: u8| usize::from(sheet.owner[usize::from(leaf)]);
     if sheet.edges.iter().all(|&(leaf, root)| graph.add(leaf, owner(leaf), usize::from(root))) {
-        recursion.enter(&mut graph);
+        Recursion { owner: &sheet.owner, fragments: sheet.roots.len(), readings }.enter(&mut graph);
     }
-    recursion.readings
-}
-
-struct Listed {
-    fragments: usize,
-    lines: Lines,
-}
-
-impl Readings for Listed {
-    fn found(&mut self, graph: &Reduced) -> bool {
-        let leaf = |leaves: &Leaves| if *leaves == 0 { TOP } else { leaves.trailing_zeros() as u8 };
-        self.lines.push(graph.incoming[..self.fragments].iter().map(leaf));
-        !self.lines.is_full()
-    }
-}
-
-/// The printed list.
-pub fn list(bytes: &[u8]) -> Vec<u8> {
-    match Sheet::read(bytes) {
-        Err(number) => refused(number),
-        Ok(sheet) => recurse(&sheet, Listed { fragments: sheet.roots.len(), lines: Lines::new(&sheet) }).lines.finish(),
-    }
-}
-
-struct Counted {
-    count: u64,
-    most: u64,
-}
-
-impl Readings for Counted {
-    fn found(&mut self, _: &Reduced) -> bool {
-        self.count += 1;
-        self.count < self.most
-    }
-}
-
-/// How many readings there are, up to a number.
-pub fn count(bytes: &[u8], most: u64) -> u64 {
-    Sheet::read(bytes).map_or(0, |sheet| recurse(&sheet, Counted { count: 0, most }).count)
 }

@@ -6,7 +6,20 @@ use differential::Refused;
 pub const FRAGMENTS: usize = 64;
 pub const LEAVES: usize = 127;
 
+/// In a hanging: a fragment on top.
+pub const TOP: u8 = 255;
+
+/// What becomes of the readings.
+pub trait Readings {
+    /// One more reading: the leaf's place for each fragment, or top.
+    fn push(&mut self, hanging: impl Iterator<Item = u8>);
+
+    /// Whether no further one is wanted.
+    fn is_full(&self) -> bool;
+}
+
 pub struct Sheet {
+    pub nodes: usize,
     /// The root of each fragment.
     pub roots: Vec<u8>,
     /// The number of each leaf.
@@ -25,6 +38,7 @@ impl Sheet {
         let owner = leaves.iter().map(|&leaf| place(&roots, graph.root_of(leaf))).collect();
         let edges = graph.dominance.iter().map(|&(leaf, root)| (place(&leaves, leaf), place(&roots, root))).collect();
         Ok(Sheet {
+            nodes: graph.nodes(),
             owner,
             edges,
             roots: roots.iter().map(|&root| root as u8).collect(),
