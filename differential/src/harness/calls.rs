@@ -2,7 +2,7 @@
 use super::difference::{hex, Difference};
 use super::known::{Known, Placed, Total};
 use super::lent::{Lent, LentTable};
-use super::trial::Tally;
+use super::tally::Tally;
 use bixtogan::{Count, Place, Refusal, Unplaced};
 use differential::placing::Answers;
 use differential::random::Random;
@@ -18,7 +18,7 @@ pub struct Caller<'a> {
 
 pub type Compared = Result<(), Difference>;
 
-/// What a call did to its buffer, and what is wanted.
+/// What a call did: its buffer and its answer.
 struct Seen<'a> {
     lent: &'a Lent,
     answer: Result<(), Unplaced>,

@@ -1,5 +1,6 @@
 //! Every call of the library, held against the implementation of document 01 in this package.
 mod calls;
+mod checks;
 mod cycles;
 mod damage;
 pub mod deep;
@@ -8,10 +9,12 @@ mod known;
 mod lent;
 mod put;
 mod raw;
+mod tally;
 mod trial;
 
 pub use difference::Difference;
-pub use trial::{try_any, try_damaged, Tally};
+pub use tally::Tally;
+pub use trial::{try_any, try_damaged};
 
 use differential::random::Random;
 use differential::sheet;

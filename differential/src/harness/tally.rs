@@ -1,0 +1,31 @@
+//! How much was compared.
+use super::known::Known;
+use std::ops::AddAssign;
+
+#[derive(Clone, Copy, Default)]
+pub struct Tally {
+    pub sheets: u64,
+    /// Those of the sheets that aren't well-formed.
+    pub refused: u64,
+    /// Those that have no reading.
+    pub unsolvable: u64,
+    pub calls: u64,
+}
+
+impl Tally {
+    /// Of one sheet, no call made.
+    pub fn of(known: &Known) -> Tally {
+        let refused = u64::from(known.facts.is_err());
+        let unsolvable = u64::from(known.facts.as_ref().is_ok_and(|facts| !facts.solvable));
+        Tally { sheets: 1, refused, unsolvable, calls: 0 }
+    }
+}
+
+impl AddAssign for Tally {
+    fn add_assign(&mut self, other: Tally) {
+        self.sheets += other.sheets;
+        self.refused += other.refused;
+        self.unsolvable += other.unsolvable;
+        self.calls += other.calls;
+    }
+}
