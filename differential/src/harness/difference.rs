@@ -20,11 +20,17 @@ pub fn unhex(text: &str) -> Option<Vec<u8>> {
     pairs.map(|pair| u8::from_str_radix(pair?, 16).ok()).collect()
 }
 
+/// The beginning of an answer: one call may hand out megabytes.
+fn beginning(text: &str) -> &str {
+    const SHOWN: usize = 4000;
+    text.char_indices().nth(SHOWN).map_or(text, |(end, _)| &text[..end])
+}
+
 impl fmt::Display for Difference {
     fn fmt(&self, f: &mut fmt::Formatter<'_>) -> fmt::Result {
         writeln!(f, "sheet  {}", hex(&self.sheet))?;
         writeln!(f, "call   {}", self.call)?;
-        writeln!(f, "wanted {}", self.wanted)?;
-        write!(f, "given  {}", self.given)
+        writeln!(f, "wanted {}", beginning(&self.wanted))?;
+        write!(f, "given  {}", beginning(&self.given))
     }
 }
