@@ -24,7 +24,7 @@ use Rattle.fork.specs.Given.{Ends}
 use Rattle.walking.specs.Walk.{Decision, first, second, half, graphAt, Valid}
 use Rattle.walking.proofs.Halves.{half-nodes, half-tree, half-shaped}
 use Rattle.walking.proofs.Decisions.{graph-nodes, graph-tree, graph-own, graph-leaf, graph-root, graph-shaped, few-decisions, Last, valid-popped}
-use Rattle.walk.specs.Decisions.{decision, decisions, Within, Room}
+use Rattle.walk.specs.Decisions.{decision, decisions, Within, Room, Kept}
 use Rattle.walk.specs.Given.{Owners, Owned, Fits}
 use Rattle.walk.specs.States.{Turned}
 use Rattle.walk.proofs.Tables.{decision-first, decisions-none, decisions-more, decisions-length, graph-more, valid-fewer}
@@ -45,14 +45,25 @@ rows-same {R} {low} {high} {low′} {high′} el eh r = rw (el, eh) r
 
 -- the graph at the decisions
 
+pub owned-in : {g : Graph} (ds : List Decision) (n : ℕ) (owners : List ℕ) → Shaped (graphAt g ds) → Owned g n owners → Owned (graphAt g ds) n owners
+owned-in {g} ds n owners s o =
+    record {
+      shaped = s;
+      nodes = o .nodes ∙ sym (graph-nodes g ds);
+      owners-are = λ x h. o .owners-are x h ∙ sym (graph-own g ds x);
+    }
+
+pub ends-at : {g : Graph} (ds : List Decision) (n : ℕ) (leaves roots : NodeSet) → Ends g n leaves roots → Ends (graphAt g ds) n leaves roots
+ends-at {g} ds n leaves roots e =
+    record {
+      nodes = e .nodes ∙ sym (graph-nodes g ds);
+      leaves-are = λ x. e .leaves-are x ∙ sym (graph-leaf g ds x);
+      roots-are = λ x. e .roots-are x ∙ sym (graph-root g ds x);
+    }
+
 module _ {g : Graph} {ds : List Decision} (n : ℕ) (v : Valid g ds) where
   pub owned-at : (owners : List ℕ) → Owned g n owners → Owned (graphAt g ds) n owners
-  owned-at owners o =
-      record {
-        shaped = graph-shaped (o .shaped) v;
-        nodes = o .nodes ∙ sym (graph-nodes g ds);
-        owners-are = λ x h. o .owners-are x h ∙ sym (graph-own g ds x);
-      }
+  owned-at owners o = owned-in ds n owners (graph-shaped (o .shaped) v) o
 
   pub fits-at : (parents owners : List ℕ) → Fits g n parents owners → Fits (graphAt g ds) n parents owners
   fits-at parents owners f =
@@ -62,14 +73,6 @@ module _ {g : Graph} {ds : List Decision} (n : ℕ) (v : Valid g ds) where
           nodes = f .tree .nodes ∙ sym (graph-nodes g ds);
           parent-is = λ x h. f .tree .parent-is x h ∙ ap (λ (t : List Edge). parent t x) (sym (graph-tree g ds));
         };
-      }
-
-  pub ends-at : (leaves roots : NodeSet) → Ends g n leaves roots → Ends (graphAt g ds) n leaves roots
-  ends-at leaves roots e =
-      record {
-        nodes = e .nodes ∙ sym (graph-nodes g ds);
-        leaves-are = λ x. e .leaves-are x ∙ sym (graph-leaf g ds x);
-        roots-are = λ x. e .roots-are x ∙ sym (graph-root g ds x);
       }
 
 -- what the test for a solved form asks of a half, and what its answer says
@@ -106,6 +109,17 @@ within-fewer {n} {depth} {uppers} {lowers} k eu el h w =
       lowers-long = omega (arith, w .lowers-long);
       nodes = λ i l. w .nodes i (omega arith);
     })
+
+pub within-kept : {n depth : ℕ} {uppers lowers uppers′ lowers′ : List ℕ} → Kept depth uppers lowers uppers′ lowers′ → length uppers′ ≡ length uppers → length lowers′ ≡ length lowers
+    → Within n depth uppers lowers → Within n depth uppers′ lowers′
+within-kept same lu ll w =
+    record {
+      uppers-long = omega (arith, w .uppers-long, lu);
+      lowers-long = omega (arith, w .lowers-long, ll);
+      nodes = λ i h.
+          let x = w .nodes i h in
+          (omega (arith, x .0, same .upper i h), omega (arith, x .1, same .lower i h));
+    }
 
 pub owners-table : {g : Graph} {n : ℕ} {owners : List ℕ} → n ≤ length owners → Owned g n owners → Owners n owners
 owners-table {g} {n} {owners} long o =

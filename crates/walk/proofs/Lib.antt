@@ -1,3 +1,4 @@
 pub mod Tables
 pub mod Fitting
 pub mod Walks
+pub mod Dives

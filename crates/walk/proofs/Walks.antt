@@ -70,11 +70,11 @@ module _ {g : Graph} {uppers lowers low high : List ℕ} {depth k : ℕ} (s : Sh
 
 pub enters-given : {g : Graph} {n : ℕ} {parents owners : List ℕ} {leaves roots : NodeSet} {uppers lowers low high : List ℕ} {depth k : ℕ} → Fits g n parents owners → Ends g n leaves roots
     → Enters g uppers lowers low high depth k → Given (graphAt g (decisions uppers lowers depth)) n leaves roots low high
-enters-given {n = n} {parents = parents} {owners = owners} {leaves = leaves} {roots = roots} f e x =
+enters-given {n = n} {parents = parents} {owners = owners} {leaves = leaves} {roots = roots} {uppers = uppers} {lowers = lowers} {depth = depth} f e x =
     record {
       shaped = fits-at n (x .entering .valid) parents owners f .owned .shaped;
       loopless = solvable-loopless (x .entering .solvable);
-      ends = ends-at n (x .entering .valid) leaves roots e;
+      ends = ends-at (decisions uppers lowers depth) n leaves roots e;
       rows = x .rows;
     }
 
@@ -109,7 +109,7 @@ module _ {n : ℕ} {parents owners : List ℕ} {leaves roots : NodeSet} {base-lo
       record {
         shaped = fits-at n (x .at .valid) parents owners (s .fits) .owned .shaped;
         loopless = x .at .loopless;
-        ends = ends-at n (x .at .valid) leaves roots (s .ends);
+        ends = ends-at (decisions uppers lowers depth) n leaves roots (s .ends);
         rows = x .rows;
       }
 
@@ -123,7 +123,7 @@ leaving-last {g} uppers lowers last depth {k} e x = subst (λ (m : ℕ). Leaving
 
 module _ {g : Graph} (uppers lowers : List ℕ) (last : ℕ) {k : ℕ} (s : Shaped g) (x : Leaving g (decisions uppers lowers (last + 1)) k) where
   module _ (h : getD uppers last 0 < getD lowers last 0) where
-    leaves-first : Leaving g (decisions uppers lowers last ++ (first (getD uppers last 0) (getD lowers last 0) ∷ [])) k
+    pub leaves-first : Leaving g (decisions uppers lowers last ++ (first (getD uppers last 0) (getD lowers last 0) ∷ [])) k
     leaves-first =
         subst (λ (l : List Decision). Leaving g l k)
         (decisions-more uppers lowers last ∙ ap (λ (d : Decision). decisions uppers lowers last ++ (d ∷ [])) (decision-first (getD uppers last 0) (getD lowers last 0) h)) x

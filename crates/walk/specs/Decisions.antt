@@ -1,6 +1,7 @@
 -- The decisions of a walk as two tables of leaves: the edge that a decision adds goes from its `upper` leaf to the root of
 -- its `lower` leaf. Of the two leaves of a choice a is the lower number, so the numbers tell which half it is.
 use Prim.Native.Nat.{ℕ, zero, suc, _*_, _≤_, _<_}
+use mathlib.Core.Path.{_≡_}
 use mathlib.Core.List.{List, [], _∷_, _++_}
 use mathlib.Core.Bool.{cond}
 use lib.Dec.{ltb}
@@ -24,3 +25,8 @@ pub record Within (n depth : ℕ) (uppers lowers : List ℕ) : Type 0 where
 -- the tables have an entry for each pair of nodes, more than there can be decisions
 abbrev pub Room : ℕ → List ℕ → List ℕ → Type 0
 Room n uppers lowers = (n * n ≤ length uppers) × (n * n ≤ length lowers)
+
+-- the first entries are the same
+pub record Kept (depth : ℕ) (uppers lowers uppers′ lowers′ : List ℕ) : Type 0 where
+  pub upper : (i : ℕ) → i < depth → getD uppers′ i 0 ≡ getD uppers i 0
+  pub lower : (i : ℕ) → i < depth → getD lowers′ i 0 ≡ getD lowers i 0

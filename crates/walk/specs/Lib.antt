@@ -2,3 +2,4 @@ pub mod Decisions
 pub mod Given
 pub mod States
 pub mod Moves
+pub mod Dives

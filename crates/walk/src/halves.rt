@@ -1,6 +1,6 @@
 // Entering a half, and turning to the other. A half is tested for a solved form before it is entered.
 use crate::replay::add_half;
-use crate::replay::rebuild;
+use crate::replay::turn;
 use rows::copy_rows;
 use solvable::solvable;
 ghost use Prim.Native.Nat.{ℕ, _+_, _<_};
@@ -101,7 +101,7 @@ pub fn other_half(
         (getD (now (uppers .entry)) last 0) (getD (now (lowers .entry)) last 0) r (now (low .exit)) (now (high .exit)))
         ⌝ }
 {
-    rebuild(
+    turn(
         owner,
         n,
         base_low,
@@ -111,14 +111,6 @@ pub fn other_half(
         last,
         low,
         high,
-    );
-    add_half(
-        owner,
-        n,
-        low,
-        high,
-        lowers[last] as usize,
-        uppers[last] as usize,
     );
     solvable(parent, n, low, high)
 }

@@ -1,11 +1,12 @@
 // The rows where decisions have led, from the sheet's rows.
 use descent::add_edge;
 use rows::copy_rows;
-ghost use Prim.Native.Nat.{_≤_, _<_};
+ghost use Prim.Native.Nat.{_+_, _≤_, _<_};
+ghost use lib.ListN.{getD};
 ghost use Rattle.graph.specs.Graph.{Graph, Descent, own};
 ghost use Rattle.graph.specs.Order.{adding};
 ghost use Rattle.rows.specs.Rows.{Long, Rows};
-ghost use Rattle.walking.specs.Walk.{graphAt, Valid};
+ghost use Rattle.walking.specs.Walk.{second, half, graphAt, Valid};
 ghost use Rattle.walk.specs.Decisions.{decisions, Within};
 ghost use Rattle.walk.specs.Given.{Owners, Owned};
 
@@ -52,4 +53,47 @@ pub fn rebuild(
     for i in 0..depth {
         add_half(owner, n, low, high, uppers[i] as usize, lowers[i] as usize);
     }
+}
+
+// The other half of the choice at `last`, where the decisions before it have led.
+pub fn turn(
+    owner: &[u8],
+    n: usize,
+    base_low: &[u64],
+    base_high: &[u64],
+    uppers: &[u8],
+    lowers: &[u8],
+    last: usize,
+    low: &mut [u64],
+    high: &mut [u64],
+)
+    requires { ⌜ Owners n (now owner) × (n ≤ 128) × Long (now «base_low») (now «base_high») × Long (now low) (now high) ⌝ }
+    requires { ⌜ Within n (last + 1) (now uppers) (now lowers) ⌝ }
+    ensures { λ _. ⌜ Long (now (low .exit)) (now (high .exit)) ⌝ }
+    ensures { λ _. ⌜
+        ((g : Graph) → Owned g n (now (owner .entry)) → Rows (Descent g) (now («base_low» .entry)) (now («base_high» .entry)) →
+        Valid g (decisions (now (uppers .entry)) (now (lowers .entry)) last) →
+        Rows (Descent (half (graphAt g (decisions (now (uppers .entry)) (now (lowers .entry)) last))
+        (second (getD (now (uppers .entry)) last 0) (getD (now (lowers .entry)) last 0)))) (now (low .exit)) (now (high .exit)))
+        ⌝ }
+{
+    rebuild(
+        owner,
+        n,
+        base_low,
+        base_high,
+        uppers,
+        lowers,
+        last,
+        low,
+        high,
+    );
+    add_half(
+        owner,
+        n,
+        low,
+        high,
+        lowers[last] as usize,
+        uppers[last] as usize,
+    );
 }

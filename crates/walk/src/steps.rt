@@ -1,5 +1,8 @@
 // From reading to reading. The decisions are `depth` entries of two tables: the leaf that the edge added starts from, and
 // the leaf whose root it goes to. It is the first half of its choice where the one that it starts from is the lower.
+use crate::dive::Dived;
+use crate::dive::back;
+use crate::dive::hop;
 use crate::halves::other_half;
 use crate::halves::take_half;
 use fork::choose::Fork;
@@ -14,7 +17,7 @@ ghost use Rattle.fork.specs.Given.{Ends};
 ghost use Rattle.walking.specs.Walk.{Leaving};
 ghost use Rattle.walk.specs.Decisions.{decisions, Within, Room};
 ghost use Rattle.walk.specs.Given.{Owners, Fits, Sheet};
-ghost use Rattle.walk.specs.States.{Enters, Stands, Arriving, Standing};
+ghost use Rattle.walk.specs.States.{Enters, Stands, Arriving, Standing, Departing};
 ghost use Rattle.walk.specs.Moves.{Left, Moves};
 
 pub enum Moved {
@@ -138,8 +141,8 @@ pub fn first(
     )
 }
 
-// The depth at the reading after this one.
-pub fn next(
+// The depth at the next reading, on the way on which each half is tested.
+fn advance(
     parent: &[u8],
     owner: &[u8],
     n: usize,
@@ -153,16 +156,13 @@ pub fn next(
     lowers: &mut [u8],
     depth: usize,
 ) -> Moved
-    requires { ⌜
-        Standing n (now parent) (now owner) leaves roots (now «base_low») (now «base_high»)
-        (now uppers) (now lowers) (now low) (now high) depth
-        ⌝ }
-    requires { ⌜ Room n (now uppers) (now lowers) ⌝ }
+    requires { ⌜ Departing n (now parent) (now owner) leaves roots (now «base_low») (now «base_high») (now uppers) (now lowers) depth ⌝ }
+    requires { ⌜ Long (now low) (now high) × Room n (now uppers) (now lowers) ⌝ }
     ensures { λ r. ⌜
         ((s : Sheet n (now (parent .entry)) (now (owner .entry)) leaves roots (now («base_low» .entry)) (now («base_high» .entry)))
         (k : ℕ) →
-        Stands (s .graph) (now (uppers .entry)) (now (lowers .entry)) (now (low .entry)) (now (high .entry)) depth k →
-        Moves (s .graph) (now (uppers .exit)) (now (lowers .exit)) (now (low .exit)) (now (high .exit)) (k + 1) r)
+        Leaving (s .graph) (decisions (now (uppers .entry)) (now (lowers .entry)) depth) k →
+        Moves (s .graph) (now (uppers .exit)) (now (lowers .exit)) (now (low .exit)) (now (high .exit)) k r)
         ⌝ }
 {
     let Moved::To(turned) = leave(
@@ -191,4 +191,67 @@ pub fn next(
         lowers,
         turned,
     ))
+}
+
+// The depth at the reading after this one. Few sheets have halves that lead to none, so that the test of each half mostly says
+// yes: it is left to where the untested way ends.
+pub fn next(
+    parent: &[u8],
+    owner: &[u8],
+    n: usize,
+    leaves: NodeSet,
+    roots: NodeSet,
+    base_low: &[u64],
+    base_high: &[u64],
+    low: &mut [u64],
+    high: &mut [u64],
+    uppers: &mut [u8],
+    lowers: &mut [u8],
+    depth: usize,
+) -> Moved
+    requires { ⌜
+        Standing n (now parent) (now owner) leaves roots (now «base_low») (now «base_high»)
+        (now uppers) (now lowers) (now low) (now high) depth
+        ⌝ }
+    requires { ⌜ Room n (now uppers) (now lowers) ⌝ }
+    ensures { λ r. ⌜
+        ((s : Sheet n (now (parent .entry)) (now (owner .entry)) leaves roots (now («base_low» .entry)) (now («base_high» .entry)))
+        (k : ℕ) →
+        Stands (s .graph) (now (uppers .entry)) (now (lowers .entry)) (now (low .entry)) (now (high .entry)) depth k →
+        Moves (s .graph) (now (uppers .exit)) (now (lowers .exit)) (now (low .exit)) (now (high .exit)) (k + 1) r)
+        ⌝ }
+{
+    let at = back(uppers, lowers, depth);
+    if at == 0 {
+        return Moved::End;
+    }
+    match hop(
+        owner,
+        n,
+        leaves,
+        roots,
+        base_low,
+        base_high,
+        low,
+        high,
+        uppers,
+        lowers,
+        at - 1,
+    ) {
+        Dived::To(deep) => Moved::To(deep),
+        Dived::Stuck => advance(
+            parent,
+            owner,
+            n,
+            leaves,
+            roots,
+            base_low,
+            base_high,
+            low,
+            high,
+            uppers,
+            lowers,
+            at,
+        ),
+    }
 }

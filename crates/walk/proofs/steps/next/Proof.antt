@@ -1,28 +1,23 @@
--- Out of the reading, and on to the next.
-use Prim.Native.Nat.{_+_}
+-- Out of the reading and back to the last first half; from there on by the untested way, or else by the tested one.
+use Prim.Native.Nat.{_+_, _-_}
+use mathlib.Core.Path.{refl}
 use native.Mathlib.Omega.{arith}
 use denote.Ref.{now}
-use borrow.Author.Needs.{needs}
 use Rattle.walking.proofs.States.{at-leaving}
-use Rattle.walk.proofs.Fitting.{owners-table, valid-within}
+use Rattle.walk.proofs.Walks.{left-all}
+use Rattle.walk.proofs.Fitting.{owners-table, valid-within, within-fewer}
+use Rattle.walk.proofs.Dives.{back-leaving, back-last, back-still}
+use borrow.Author.Needs.{needs}
 use Rattle.walk.proofs.steps.next.Statement.{statement}
 use Rattle.walk.proofs.steps.next.Tie as tie
 
-leave-requires : tie.Need-leave-requires
-leave-requires c κs =
-    let s = c .before .before .before .before .before .before .before .before .before .before .before .before in
-    let a = s .args in
-    let h = s .pre .0 .sheet in
-    let x = s .pre .0 .stands in (
-      (h .parents-table, owners-table (h .owners-long) (h .fits .owned), (h .rows .low-long, h .rows .high-long), (x .rows .low-long, x .rows .high-long)),
-      valid-within (h .graph) (a .n) (now (a .owner)) (now (a .uppers)) (now (a .lowers)) (h .fits .owned) (a .depth) (s .pre .1) (x .at .valid),
-    )
-
-enum-known-turned : tie.Need-enum-known-turned
-enum-known-turned c = search needs
-
-enum-told : tie.Need-enum-told
-enum-told c = search needs
+back-requires : tie.Need-back-requires
+back-requires c κs =
+    let a = c .before .before .before .before .before .before .before .before .before .before .args in
+    let h = c .before .before .before .before .before .before .before .before .before .before .pre .0 .sheet in
+    let x = c .before .before .before .before .before .before .before .before .before .before .pre .0 .stands in
+    let w = valid-within (h .graph) (a .n) (now (a .owner)) (now (a .uppers)) (now (a .lowers)) (h .fits .owned) (a .depth) (c .before .before .before .before .before .before .before .before .before .before .pre .1) (x .at .valid) in
+    (w .uppers-long, w .lowers-long)
 
 same-length : tie.Need-same-length
 same-length c = search needs
@@ -30,33 +25,45 @@ same-length c = search needs
 same-length-2 : tie.Need-same-length-2
 same-length-2 c = search needs
 
+returns : tie.Need-returns
+returns c =
+    λ h k x. left-all (now (c .before .before .before .before .before .before .before .before .before .before .before .before .args .uppers)) (now (c .before .before .before .before .before .before .before .before .before .before .before .before .args .lowers)) (c .before .back .result) (omega (arith, c .if1 .taken)) (back-leaving (now (c .before .before .before .before .before .before .before .before .before .before .before .before .args .uppers)) (now (c .before .before .before .before .before .before .before .before .before .before .before .before .args .lowers)) (c .before .before .before .before .before .before .before .before .before .before .before .before .args .depth) (c .before .back .result) (h .fits .owned .shaped) (c .before .back .ensures) (at-leaving (x .at)))
+
+sub-hop : tie.Need-sub-hop
+sub-hop c = search needs
+
+hop-requires : tie.Need-hop-requires
+hop-requires c κs =
+    let a = c .before .before .before .before .before .before .before .before .before .before .before .before .before .before .before .before .args in
+    let h = c .before .before .before .before .before .before .before .before .before .before .before .before .before .before .before .before .pre .0 .sheet in
+    let x = c .before .before .before .before .before .before .before .before .before .before .before .before .before .before .before .before .pre .0 .stands in
+    let w = valid-within (h .graph) (a .n) (now (a .owner)) (now (a .uppers)) (now (a .lowers)) (h .fits .owned) (a .depth) (c .before .before .before .before .before .before .before .before .before .before .before .before .before .before .before .before .pre .1) (x .at .valid) in
+    ((owners-table (h .owners-long) (h .fits .owned), h .parents-table .few, (h .rows .low-long, h .rows .high-long), (x .rows .low-long, x .rows .high-long)), within-fewer (c .before .before .before .before .before .back .result - 1 + 1) refl refl (omega (arith, c .before .before .before .before .before .back .ensures .fewer, c .before .before .before .before .if1 .left)) w)
+
+enum-known-deep : tie.Need-enum-known-deep
+enum-known-deep c = search needs
+
+enum-told : tie.Need-enum-told
+enum-told c = search needs
+
+advance-requires : tie.Need-advance-requires
+advance-requires c κs =
+    let a = c .before .before .before .before .before .before .before .before .before .before .before .before .before .before .before .before .before .before .before .before .before .before .before .before .before .before .before .before .before .before .before .args in
+    let h = c .before .before .before .before .before .before .before .before .before .before .before .before .before .before .before .before .before .before .before .before .before .before .before .before .before .before .before .before .before .before .before .pre .0 .sheet in
+    let x = c .before .before .before .before .before .before .before .before .before .before .before .before .before .before .before .before .before .before .before .before .before .before .before .before .before .before .before .before .before .before .before .pre .0 .stands in (
+      record {
+        sheet = h;
+        passed = c .before .before .before .before .before .before .before .before .before .before .before .before .before .before .before .before .before .before .before .before .before .before .before .before .before .before .before .before .before .before .before .pre .0 .passed + 1;
+        leaving = back-still (now (c .before .before .before .before .before .before .before .before .before .before .before .before .before .before .before .before .before .before .before .before .before .before .before .before .before .before .before .before .before .before .before .args .uppers)) (now (c .before .before .before .before .before .before .before .before .before .before .before .before .before .before .before .before .before .before .before .before .before .before .before .before .before .before .before .before .before .before .before .args .lowers)) (a .depth) (c .before .before .before .before .before .before .before .before .before .before .before .before .before .before .before .before .before .before .before .before .back .result) (h .fits .owned .shaped) (c .before .before .before .before .before .before .before .before .before .before .before .before .before .before .before .before .before .before .before .before .back .ensures) (at-leaving (x .at)) (omega (arith, c .before .before .before .before .before .before .before .before .before .before .before .before .before .before .before .before .before .before .before .if1 .left)) (c .before .before .before .before .before .before .before .before .before .before .before .before .before .before .hop .ensures .1 .0 (c .before .before .before .before .enum-told .given .1));
+      },
+      (c .before .before .before .before .before .before .before .before .before .before .before .before .before .before .hop .ensures .0, (omega (arith, c .before .before .before .before .before .before .before .before .before .before .before .before .before .before .before .before .before .before .before .before .before .before .before .before .before .before .before .before .before .before .before .pre .1 .0, c .before .before .before .before .before .before .before .before .before .before .before .before .before .before .hop .kept), omega (arith, c .before .before .before .before .before .before .before .before .before .before .before .before .before .before .before .before .before .before .before .before .before .before .before .before .before .before .before .before .before .before .before .pre .1 .1, c .before .before .before .before .before .before .before .before .before .before .before .before .before .before .hop .kept))),
+    )
+
 same-length-3 : tie.Need-same-length-3
 same-length-3 c = search needs
 
 same-length-4 : tie.Need-same-length-4
 same-length-4 c = search needs
-
-returns : tie.Need-returns
-returns c =
-    let e = c .before .before .before .before .before .before .before .before .before .before .leave .ensures in
-    λ h k x. rw (c .enum-told .given .1) at (e (h .graph) (k + 1) (h .fits) (h .rows) (at-leaving (x .at)))
-
-enter-requires : tie.Need-enter-requires
-enter-requires c κs =
-    let s = c .before .before .before .before .before .before .before .before .before .before .before .before .before .before .before .before .before .before .before .before .before .before .before .before .before .before .before .before in
-    let h = s .pre .0 .sheet in
-    let e = c .before .before .before .before .before .before .before .before .before .before .before .before .before .before .before .leave .ensures in (
-      record {
-        graph = h .graph;
-        passed = s .pre .0 .passed + 1;
-        parents-table = h .parents-table;
-        owners-long = h .owners-long;
-        fits = h .fits;
-        ends = h .ends;
-        enters = rw (c .before .before .before .before .before .turned .given .1) at (e (h .graph) (s .pre .0 .passed + 1) (h .fits) (h .rows) (at-leaving (s .pre .0 .stands .at)));
-      },
-      (omega (arith, s .pre .1 .0, c .before .before .before .before .before .before .before .before .before .before .before .before .before .before .before .leave .kept .1 .1 .1 .1 .1 .1 .1 .0), omega (arith, s .pre .1 .1, c .before .before .before .before .before .before .before .before .before .before .before .before .before .before .before .leave .kept .1 .1 .1 .1 .1 .1 .1 .1 .0)),
-    )
 
 same-length-5 : tie.Need-same-length-5
 same-length-5 c = search needs
@@ -64,32 +71,46 @@ same-length-5 c = search needs
 same-length-6 : tie.Need-same-length-6
 same-length-6 c = search needs
 
+returns-2 : tie.Need-returns-2
+returns-2 c =
+    λ h k x. c .before .before .before .before .before .before .before .before .before .before .before .hop .ensures .1 .1 (h .graph) (k + 1) (h .fits .owned) (h .ends) (h .rows) (back-last (now (c .before .before .before .before .before .before .before .before .before .before .before .before .before .before .before .before .before .before .before .before .before .before .before .before .before .before .before .before .args .uppers)) (now (c .before .before .before .before .before .before .before .before .before .before .before .before .before .before .before .before .before .before .before .before .before .before .before .before .before .before .before .before .args .lowers)) (c .before .before .before .before .before .before .before .before .before .before .before .before .before .before .before .before .before .before .before .before .before .before .before .before .before .before .before .before .args .depth) (c .before .before .before .before .before .before .before .before .before .before .before .before .before .before .before .before .before .back .result) (h .fits .owned .shaped) (c .before .before .before .before .before .before .before .before .before .before .before .before .before .before .before .before .before .back .ensures) (at-leaving (x .at)) (omega (arith, c .before .before .before .before .before .before .before .before .before .before .before .before .before .before .before .before .if1 .left))) (c .before .before .before .before .before .before .before .before .before .before .before .before .before .before .before .before .before .back .ensures .first (omega (arith, c .before .before .before .before .before .before .before .before .before .before .before .before .before .before .before .before .if1 .left))) _ (c .before .deep .given .1)
+
 same-length-7 : tie.Need-same-length-7
 same-length-7 c = search needs
 
 same-length-8 : tie.Need-same-length-8
 same-length-8 c = search needs
 
-returns-2 : tie.Need-returns-2
-returns-2 c =
-    let e = c .before .before .before .before .before .before .before .before .before .before .before .before .before .before .before .before .before .before .before .before .before .before .before .before .leave .ensures in
-    λ h k x. c .before .before .before .before .before .before .before .before .enter .ensures (h .graph) (k + 1) (h .fits) (h .ends) (rw (c .before .before .before .before .before .before .before .before .before .before .before .before .before .before .turned .given .1) at (e (h .graph) (k + 1) (h .fits) (h .rows) (at-leaving (x .at))))
+same-length-9 : tie.Need-same-length-9
+same-length-9 c = search needs
+
+same-length-10 : tie.Need-same-length-10
+same-length-10 c = search needs
+
+returns-3 : tie.Need-returns-3
+returns-3 c =
+    λ h k x. c .before .before .before .before .before .before .before .before .advance .ensures h (k + 1) (back-still (now (c .before .before .before .before .before .before .before .before .before .before .before .before .before .before .before .before .before .before .before .before .before .before .before .before .before .before .before .before .before .before .before .before .before .before .before .before .before .before .before .before .args .uppers)) (now (c .before .before .before .before .before .before .before .before .before .before .before .before .before .before .before .before .before .before .before .before .before .before .before .before .before .before .before .before .before .before .before .before .before .before .before .before .before .before .before .before .args .lowers)) (c .before .before .before .before .before .before .before .before .before .before .before .before .before .before .before .before .before .before .before .before .before .before .before .before .before .before .before .before .before .before .before .before .before .before .before .before .before .before .before .before .args .depth) (c .before .before .before .before .before .before .before .before .before .before .before .before .before .before .before .before .before .before .before .before .before .before .before .before .before .before .before .before .before .back .result) (h .fits .owned .shaped) (c .before .before .before .before .before .before .before .before .before .before .before .before .before .before .before .before .before .before .before .before .before .before .before .before .before .before .before .before .before .back .ensures) (at-leaving (x .at)) (omega (arith, c .before .before .before .before .before .before .before .before .before .before .before .before .before .before .before .before .before .before .before .before .before .before .before .before .before .before .before .before .if1 .left)) (c .before .before .before .before .before .before .before .before .before .before .before .before .before .before .before .before .before .before .before .before .before .before .before .hop .ensures .1 .0 (c .before .before .before .before .before .before .before .before .before .before .before .before .before .enum-told .given .1)))
 
 pub next-spec : {M : Type 1} → statement M
 next-spec =
     tie.close
     (tie.spec
-    leave-requires
-    enum-known-turned
-    enum-told
+    back-requires
     same-length
     same-length-2
+    returns
+    sub-hop
+    hop-requires
+    enum-known-deep
+    enum-told
+    advance-requires
     same-length-3
     same-length-4
-    returns
-    enter-requires
     same-length-5
     same-length-6
+    returns-2
     same-length-7
     same-length-8
-    returns-2)
+    same-length-9
+    same-length-10
+    returns-3)

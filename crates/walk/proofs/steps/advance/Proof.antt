@@ -1,0 +1,92 @@
+-- Out of the half, and on to the next reading.
+use native.Mathlib.Omega.{arith}
+use denote.Ref.{now}
+use borrow.Author.Needs.{needs}
+use Rattle.walk.proofs.Fitting.{owners-table, valid-within}
+use Rattle.walk.proofs.steps.advance.Statement.{statement}
+use Rattle.walk.proofs.steps.advance.Tie as tie
+
+leave-requires : tie.Need-leave-requires
+leave-requires c κs =
+    let s = c .before .before .before .before .before .before .before .before .before .before .before .before in
+    let a = s .args in
+    let h = s .pre .0 .sheet in (
+      (h .parents-table, owners-table (h .owners-long) (h .fits .owned), (h .rows .low-long, h .rows .high-long), s .pre .1 .0),
+      valid-within (h .graph) (a .n) (now (a .owner)) (now (a .uppers)) (now (a .lowers)) (h .fits .owned) (a .depth) (s .pre .1 .1) (s .pre .0 .leaving .valid),
+    )
+
+enum-known-turned : tie.Need-enum-known-turned
+enum-known-turned c = search needs
+
+enum-told : tie.Need-enum-told
+enum-told c = search needs
+
+same-length : tie.Need-same-length
+same-length c = search needs
+
+same-length-2 : tie.Need-same-length-2
+same-length-2 c = search needs
+
+same-length-3 : tie.Need-same-length-3
+same-length-3 c = search needs
+
+same-length-4 : tie.Need-same-length-4
+same-length-4 c = search needs
+
+returns : tie.Need-returns
+returns c =
+    let e = c .before .before .before .before .before .before .before .before .before .before .leave .ensures in
+    λ h k x. rw (c .enum-told .given .1) at (e (h .graph) k (h .fits) (h .rows) x)
+
+enter-requires : tie.Need-enter-requires
+enter-requires c κs =
+    let s = c .before .before .before .before .before .before .before .before .before .before .before .before .before .before .before .before .before .before .before .before .before .before .before .before .before .before .before .before in
+    let h = s .pre .0 .sheet in
+    let e = c .before .before .before .before .before .before .before .before .before .before .before .before .before .before .before .leave .ensures in (
+      record {
+        graph = h .graph;
+        passed = s .pre .0 .passed;
+        parents-table = h .parents-table;
+        owners-long = h .owners-long;
+        fits = h .fits;
+        ends = h .ends;
+        enters = rw (c .before .before .before .before .before .turned .given .1) at (e (h .graph) (s .pre .0 .passed) (h .fits) (h .rows) (s .pre .0 .leaving));
+      },
+      (omega (arith, s .pre .1 .1 .0, c .before .before .before .before .before .before .before .before .before .before .before .before .before .before .before .leave .kept .1 .1 .1 .1 .1 .1 .1 .0), omega (arith, s .pre .1 .1 .1, c .before .before .before .before .before .before .before .before .before .before .before .before .before .before .before .leave .kept .1 .1 .1 .1 .1 .1 .1 .1 .0)),
+    )
+
+same-length-5 : tie.Need-same-length-5
+same-length-5 c = search needs
+
+same-length-6 : tie.Need-same-length-6
+same-length-6 c = search needs
+
+same-length-7 : tie.Need-same-length-7
+same-length-7 c = search needs
+
+same-length-8 : tie.Need-same-length-8
+same-length-8 c = search needs
+
+returns-2 : tie.Need-returns-2
+returns-2 c =
+    let e = c .before .before .before .before .before .before .before .before .before .before .before .before .before .before .before .before .before .before .before .before .before .before .before .before .leave .ensures in
+    λ h k x. c .before .before .before .before .before .before .before .before .enter .ensures (h .graph) k (h .fits) (h .ends) (rw (c .before .before .before .before .before .before .before .before .before .before .before .before .before .before .turned .given .1) at (e (h .graph) k (h .fits) (h .rows) x))
+
+pub advance-spec : {M : Type 1} → statement M
+advance-spec =
+    tie.close
+    (tie.spec
+    leave-requires
+    enum-known-turned
+    enum-told
+    same-length
+    same-length-2
+    same-length-3
+    same-length-4
+    returns
+    enter-requires
+    same-length-5
+    same-length-6
+    same-length-7
+    same-length-8
+    returns-2)

@@ -1,0 +1,131 @@
+// The way to the next reading on which no half is tested. Where it comes to a reading, each half on it has that solved form;
+// where it comes to a cycle, nothing is known, and the tested way is left.
+use crate::replay::add_half;
+use crate::replay::turn;
+use descent::cyclic;
+use fork::choose::Fork;
+use fork::choose::choose;
+use nodeset::NodeSet;
+ghost use mathlib.Core.Path.{_≡_};
+ghost use Prim.Native.Nat.{ℕ, _+_, _≤_, _<_};
+ghost use lib.ListN.{length, getD};
+ghost use Rattle.graph.specs.Graph.{Graph, Descent};
+ghost use Rattle.rows.specs.Rows.{Long, Rows};
+ghost use Rattle.fork.specs.Given.{Ends};
+ghost use Rattle.walking.specs.Walk.{Leaving};
+ghost use Rattle.walk.specs.Decisions.{decisions, Within, Kept};
+ghost use Rattle.walk.specs.Given.{Owners, Owned};
+ghost use Rattle.walk.specs.States.{Diving};
+ghost use Rattle.walk.specs.Dives.{Reaches, Unchanged, Back};
+
+pub enum Dived {
+    To(usize),
+    Stuck,
+}
+
+// Down by first halves. The tables have room for every walk; that they end is tested for the bounds alone.
+fn dive(
+    owner: &[u8],
+    n: usize,
+    leaves: NodeSet,
+    roots: NodeSet,
+    low: &mut [u64],
+    high: &mut [u64],
+    uppers: &mut [u8],
+    lowers: &mut [u8],
+    depth: usize,
+) -> Dived
+    requires { ⌜ Owners n (now owner) × (n ≤ 128) × Long (now low) (now high) ⌝ }
+    ensures { λ _. ⌜ Long (now (low .exit)) (now (high .exit)) ⌝ }
+    ensures { λ _. ⌜ Kept depth (now (uppers .entry)) (now (lowers .entry)) (now (uppers .exit)) (now (lowers .exit)) ⌝ }
+    ensures { λ r. ⌜
+        ((g : Graph) (k : ℕ) → Owned g n (now (owner .entry)) → Ends g n leaves roots →
+        Diving g (now (uppers .entry)) (now (lowers .entry)) (now (low .entry)) (now (high .entry)) depth k →
+        Reaches g (now (uppers .exit)) (now (lowers .exit)) (now (low .exit)) (now (high .exit)) k r)
+        ⌝ }
+{
+    let mut at = depth;
+    loop {
+        if cyclic(low, high, n) {
+            return Dived::Stuck;
+        }
+        let Fork::At(v, a, b) = choose(low, high, n, leaves, roots) else {
+            return Dived::To(at);
+        };
+        if uppers.len() <= at {
+            return Dived::Stuck;
+        }
+        if lowers.len() <= at {
+            return Dived::Stuck;
+        }
+        add_half(owner, n, low, high, a, b);
+        uppers[at] = a as u8;
+        lowers[at] = b as u8;
+        at += 1;
+    }
+}
+
+// How many decisions are left without those after the last first half.
+pub fn back(uppers: &[u8], lowers: &[u8], depth: usize) -> usize
+    requires { ⌜ (depth ≤ length (now uppers)) × (depth ≤ length (now lowers)) ⌝ }
+    ensures { λ r. ⌜ Back (now (uppers .entry)) (now (lowers .entry)) depth r ⌝ }
+{
+    let mut at = depth;
+    while 0 < at {
+        let last = at - 1;
+        if uppers[last] < lowers[last] {
+            return at;
+        }
+        at = last;
+    }
+    0
+}
+
+// Into the other half of the choice at `last`, and down. Where that leads to no reading the decisions stay.
+pub fn hop(
+    owner: &[u8],
+    n: usize,
+    leaves: NodeSet,
+    roots: NodeSet,
+    base_low: &[u64],
+    base_high: &[u64],
+    low: &mut [u64],
+    high: &mut [u64],
+    uppers: &mut [u8],
+    lowers: &mut [u8],
+    last: usize,
+) -> Dived
+    requires { ⌜ Owners n (now owner) × (n ≤ 128) × Long (now «base_low») (now «base_high») × Long (now low) (now high) ⌝ }
+    requires { ⌜ Within n (last + 1) (now uppers) (now lowers) ⌝ }
+    ensures { λ _. ⌜ Long (now (low .exit)) (now (high .exit)) ⌝ }
+    ensures { λ r. ⌜ Unchanged (last + 1) (now (uppers .entry)) (now (lowers .entry)) (now (uppers .exit)) (now (lowers .exit)) r ⌝ }
+    ensures { λ r. ⌜
+        ((g : Graph) (k : ℕ) → Owned g n (now (owner .entry)) → Ends g n leaves roots →
+        Rows (Descent g) (now («base_low» .entry)) (now («base_high» .entry)) →
+        Leaving g (decisions (now (uppers .entry)) (now (lowers .entry)) (last + 1)) k →
+        getD (now (uppers .entry)) last 0 < getD (now (lowers .entry)) last 0 →
+        Reaches g (now (uppers .exit)) (now (lowers .exit)) (now (low .exit)) (now (high .exit)) k r)
+        ⌝ }
+{
+    turn(
+        owner,
+        n,
+        base_low,
+        base_high,
+        uppers,
+        lowers,
+        last,
+        low,
+        high,
+    );
+    let a = uppers[last];
+    let b = lowers[last];
+    uppers[last] = b;
+    lowers[last] = a;
+    let dived = dive(owner, n, leaves, roots, low, high, uppers, lowers, last + 1);
+    if let Dived::Stuck = dived {
+        uppers[last] = a;
+        lowers[last] = b;
+    }
+    dived
+}
