@@ -100,12 +100,14 @@ pub fn all() -> Vec<Case> {
 mod tests {
     use crate::{calls, lines, printed};
 
+    const WAYS: [&str; 3] = ["recursion", "reduced", "free"];
+
     /// Text, placings and counts are the same, on every case.
     #[test]
     fn the_ways_agree() {
         for case in super::all() {
-            let [recursion, free] = ["recursion", "free"].map(|way| printed(way, &case.sheet).unwrap());
-            assert_eq!(lines::compare(&recursion, &recursion, &free), Ok(()), "{}", case.name);
+            let [recursion, reduced, free] = WAYS.map(|way| printed(way, &case.sheet).unwrap());
+            assert_eq!(lines::compare(&recursion, [&recursion, &reduced], &free), Ok(()), "{}", case.name);
             calls::agree(&case).unwrap();
         }
     }
@@ -115,8 +117,9 @@ mod tests {
         for (bytes, text) in
             [(&[][..], "refused 1\n"), (&[5], "refused 2\n"), (&[1, 2, 2, 0, 1, 3, 1, 0, 0], "refused 9\n")]
         {
-            let [recursion, free] = ["recursion", "free"].map(|way| printed(way, bytes).unwrap());
-            assert_eq!((&recursion[..], &free[..]), (text.as_bytes(), text.as_bytes()));
+            for way in WAYS {
+                assert_eq!(printed(way, bytes).unwrap(), text.as_bytes());
+            }
         }
     }
 }

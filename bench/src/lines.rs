@@ -1,4 +1,4 @@
-//! The printed list, written by both other ways alike.
+//! The printed list, written by the other ways alike.
 use crate::sheet::{Readings, Sheet, TOP};
 use differential::{Refused, LAST};
 use std::collections::BTreeSet;
@@ -87,10 +87,10 @@ fn readings(text: &str) -> BTreeSet<&str> {
     text.lines().skip(1).map(|line| line.split_once(' ').map_or("", |(_, hung)| hung)).collect()
 }
 
-/// The recursion lists in our order, byte for byte; free fragments list in another, but the same readings.
-pub fn compare(ours: &[u8], plain: &[u8], free: &[u8]) -> Result<(), String> {
-    if ours != plain {
-        return Err("the recursion lists otherwise".to_string());
+/// The recursions list in our order, byte for byte; free fragments list in another, but the same readings.
+pub fn compare(ours: &[u8], recursions: [&[u8]; 2], free: &[u8]) -> Result<(), String> {
+    if recursions.iter().any(|&recursion| recursion != ours) {
+        return Err("a recursion lists otherwise".to_string());
     }
     let same = count(ours) == count(free);
     let whole = !count(ours).starts_with("more");

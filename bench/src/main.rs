@@ -1,5 +1,6 @@
-//! The list of readings, timed beside two other ways to make it: Section 5's recursion with its directed-cycle test, and free
-//! fragments with a chart, which is how today's solvers go about it. Each table checks first that the three agree.
+//! The list of readings, timed beside three other ways to make it: Section 5's recursion with its directed-cycle test, the same on a
+//! graph that is kept reduced, and free fragments with a chart, which is how today's solvers go about it. Each table checks first
+//! that all agree.
 mod calls;
 mod cases;
 mod free;
@@ -8,6 +9,7 @@ mod lines;
 mod measure;
 mod placings;
 mod plain;
+mod reduced;
 mod sheet;
 mod table;
 
@@ -17,7 +19,7 @@ use measure::Program;
 use sheet::Sheet;
 use std::io::{Read, Write};
 use std::process::ExitCode;
-use table::{microseconds, milliseconds};
+use table::{microseconds, milliseconds, WAYS};
 
 const USAGE: &str = "\
 usage: bench [--repeat N] [--readings PATH] [--instructions] [--family WORD]
@@ -25,7 +27,7 @@ usage: bench [--repeat N] [--readings PATH] [--instructions] [--family WORD]
   --readings PATH  our program (default target/bin/readings)
   --instructions   instructions executed by the programs, by callgrind, in place of times
   --family WORD    only the cases whose name begins with it: chain, random, refused, halves
-       bench list recursion|free < SHEET
+       bench list recursion|reduced|free < SHEET
 ";
 
 struct Options {
@@ -51,7 +53,7 @@ fn options(arguments: &[String]) -> Option<Options> {
     Some(options)
 }
 
-/// The printed list of a sheet, made in one of the other two ways.
+/// The printed list of a sheet, made in one of the other ways.
 fn printed(way: &str, bytes: &[u8]) -> Option<Vec<u8>> {
     let sheet = match Sheet::read(bytes) {
         Ok(sheet) => sheet,
@@ -60,6 +62,7 @@ fn printed(way: &str, bytes: &[u8]) -> Option<Vec<u8>> {
     let mut lines = Lines::new(&sheet);
     match way {
         "recursion" => plain::list(&sheet, &mut lines),
+        "reduced" => reduced::list(&sheet, &mut lines),
         "free" => free::list(&sheet, &mut lines),
         _ => return None,
     }
@@ -74,15 +77,19 @@ fn list(way: &str) -> Option<()> {
 }
 
 /// The programs on one case: what line 1 says, and what each of them takes.
-fn programs(options: &Options, programs: &[Program; 3], case: &Case) -> Result<(String, [Option<f64>; 3]), String> {
-    let [ours, recursion, free] = programs.each_ref().map(|program| program.output(&case.sheet));
-    lines::compare(&ours, &recursion, &free).map_err(|why| format!("{}: {why}", case.name))?;
+fn programs(
+    options: &Options,
+    programs: &[Program; WAYS],
+    case: &Case,
+) -> Result<(String, [Option<f64>; WAYS]), String> {
+    let [ours, recursion, reduced, free] = programs.each_ref().map(|program| program.output(&case.sheet));
+    lines::compare(&ours, [&recursion, &reduced], &free).map_err(|why| format!("{}: {why}", case.name))?;
     let run = |program: usize| programs[program].output(&case.sheet);
     let amounts = if options.instructions {
         let millions = |instructions: u64| instructions as f64 / 1e6;
         programs.each_ref().map(|program| instructions::of(program, &case.sheet).map(millions))
     } else {
-        milliseconds(measure::medians(options.repeat, [&mut || run(0), &mut || run(1), &mut || run(2)]))
+        milliseconds(measure::medians(options.repeat, [&mut || run(0), &mut || run(1), &mut || run(2), &mut || run(3)]))
     };
     Ok((lines::count(&ours), amounts))
 }

@@ -1,4 +1,5 @@
 //! Programs as processes, and the median of several runs.
+use crate::table::WAYS;
 use std::hint::black_box;
 use std::io::{Read, Write};
 use std::path::{Path, PathBuf};
@@ -12,14 +13,14 @@ pub struct Program {
 }
 
 impl Program {
-    /// Ours, the recursion, free fragments.
-    pub fn all(readings: &str) -> Result<[Program; 3], String> {
+    pub fn all(readings: &str) -> Result<[Program; WAYS], String> {
         if !Path::new(readings).exists() {
             return Err(format!("{readings} is not there: `rt check readings` makes it"));
         }
         let this = std::env::current_exe().map_err(|why| why.to_string())?;
         let way = |way: &str| Program { path: this.clone(), arguments: vec!["list".to_string(), way.to_string()] };
-        Ok([Program { path: PathBuf::from(readings), arguments: Vec::new() }, way("recursion"), way("free")])
+        let ours = Program { path: PathBuf::from(readings), arguments: Vec::new() };
+        Ok([ours, way("recursion"), way("reduced"), way("free")])
     }
 
     pub fn command(&self) -> Command {

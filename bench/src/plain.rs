@@ -1,94 +1,101 @@
-//! Section 5's recursion with its directed-cycle test, kept as the paper's Section 8.1 keeps it: the graph stays reduced, and an
-//! edge more drops just the edges that it makes redundant.
-use crate::sheet::{Readings, Sheet, FRAGMENTS, TOP};
+//! Section 5's recursion with its directed-cycle test and nothing more: each graph is walked through once, anew.
+use crate::sheet::{Readings, Sheet, FRAGMENTS, LEAVES, TOP};
 
-type Leaves = u128;
 type Fragments = u64;
 
-/// A reduced graph without a directed cycle.
-#[derive(Clone)]
-struct Reduced {
-    /// The leaves with an edge to each fragment that isn't redundant.
-    incoming: [Leaves; FRAGMENTS],
-    /// The leaves above each fragment.
-    above: [Leaves; FRAGMENTS],
-    /// The fragments above each, and below each, itself among them.
-    rising: [Fragments; FRAGMENTS],
-    falling: [Fragments; FRAGMENTS],
-}
-
-impl Reduced {
-    fn without_edges() -> Reduced {
-        let alone = std::array::from_fn(|fragment| 1 << fragment);
-        Reduced { incoming: [0; FRAGMENTS], above: [0; FRAGMENTS], rising: alone, falling: alone }
-    }
-
-    /// Adds an edge from a leaf of `owner` to a fragment. False where it closes a directed cycle.
-    fn add(&mut self, leaf: u8, owner: usize, fragment: usize) -> bool {
-        let falling = self.falling[fragment];
-        let rising = self.rising[owner];
-        if falling & rising != 0 {
-            return false;
-        }
-        let green = self.above[owner] | 1 << leaf;
-        if self.above[fragment] >> leaf & 1 == 1 {
-            return true;
-        }
-        let mut rest = falling;
-        while rest != 0 {
-            let lower = rest.trailing_zeros() as usize;
-            rest &= rest - 1;
-            self.incoming[lower] &= !green;
-            self.above[lower] |= green;
-            self.rising[lower] |= rising;
-        }
-        self.incoming[fragment] |= 1 << leaf;
-        let mut rest = rising;
-        while rest != 0 {
-            let upper = rest.trailing_zeros() as usize;
-            rest &= rest - 1;
-            self.falling[upper] |= falling;
-        }
-        true
-    }
-
-    /// The two lowest leaves with an edge to the lowest fragment that has two.
-    fn choice(&self, fragments: usize) -> Option<(u8, u8)> {
-        let incoming = self.incoming[..fragments].iter().find(|&leaves| leaves & leaves.wrapping_sub(1) != 0)?;
-        let others = incoming & (incoming - 1);
-        Some((incoming.trailing_zeros() as u8, others.trailing_zeros() as u8))
-    }
+#[derive(Clone, Copy, PartialEq)]
+enum Walk {
+    Ahead,
+    Under,
+    Done,
 }
 
 struct Recursion<'a, R> {
-    owner: &'a [u8],
-    fragments: usize,
+    sheet: &'a Sheet,
+    /// The places of each fragment's leaves.
+    leaves: Vec<Vec<u8>>,
+    /// The fragments that each leaf has an edge to.
+    edges: Vec<Vec<u8>>,
     readings: &'a mut R,
 }
 
+/// What one walk over a graph's edges finds: the fragments below each.
+struct Below {
+    walk: [Walk; FRAGMENTS],
+    fragments: [Fragments; FRAGMENTS],
+}
+
 impl<R: Readings> Recursion<'_, R> {
-    fn enter(&mut self, graph: &mut Reduced) {
-        let Some((a, b)) = graph.choice(self.fragments) else {
-            let leaf = |leaves: &Leaves| if *leaves == 0 { TOP } else { leaves.trailing_zeros() as u8 };
-            return self.readings.push(graph.incoming[..self.fragments].iter().map(leaf));
-        };
-        let (owner_a, owner_b) = (usize::from(self.owner[usize::from(a)]), usize::from(self.owner[usize::from(b)]));
-        let mut half = graph.clone();
-        if half.add(a, owner_a, owner_b) {
-            self.enter(&mut half);
+    /// From a fragment down. False where the way comes back to a fragment that it is under.
+    fn descend(&self, below: &mut Below, fragment: usize) -> bool {
+        below.walk[fragment] = Walk::Under;
+        let mut found = 0;
+        for &leaf in &self.leaves[fragment] {
+            for &head in &self.edges[usize::from(leaf)] {
+                let head = usize::from(head);
+                let walk = below.walk[head];
+                if walk == Walk::Under || walk == Walk::Ahead && !self.descend(below, head) {
+                    return false;
+                }
+                found |= below.fragments[head] | 1 << head;
+            }
         }
-        // The graph itself is not needed again, so the second half is made of it.
-        if !self.readings.is_full() && graph.add(b, owner_b, owner_a) {
-            self.enter(graph);
+        below.fragments[fragment] = found;
+        below.walk[fragment] = Walk::Done;
+        true
+    }
+
+    /// The fragments below each; none where there is a directed cycle.
+    fn below(&self) -> Option<[Fragments; FRAGMENTS]> {
+        let mut below = Below { walk: [Walk::Ahead; FRAGMENTS], fragments: [0; FRAGMENTS] };
+        for fragment in 0..self.leaves.len() {
+            if below.walk[fragment] == Walk::Ahead && !self.descend(&mut below, fragment) {
+                return None;
+            }
+        }
+        Some(below.fragments)
+    }
+
+    fn enter(&mut self) {
+        let Some(below) = self.below() else {
+            return;
+        };
+        // The two lowest leaves with an edge to each fragment that is not redundant.
+        let mut incoming = [[TOP; 2]; FRAGMENTS];
+        for (leaf, heads) in self.edges.iter().enumerate() {
+            let redundant = heads.iter().fold(0, |redundant, &head| redundant | below[usize::from(head)]);
+            for &head in heads.iter().filter(|&&head| redundant >> head & 1 == 0) {
+                match &mut incoming[usize::from(head)] {
+                    [first, _] if *first == TOP => *first = leaf as u8,
+                    [_, second] if *second == TOP => *second = leaf as u8,
+                    _ => {}
+                }
+            }
+        }
+        let incoming = &incoming[..self.leaves.len()];
+        let Some(&[a, b]) = incoming.iter().find(|[_, second]| *second != TOP) else {
+            return self.readings.push(incoming.iter().map(|&[first, _]| first));
+        };
+        for (upper, lower) in [(a, b), (b, a)] {
+            if self.readings.is_full() {
+                return;
+            }
+            self.edges[usize::from(upper)].push(self.sheet.owner[usize::from(lower)]);
+            self.enter();
+            self.edges[usize::from(upper)].pop();
         }
     }
 }
 
 /// The readings in document 01's order.
 pub fn list(sheet: &Sheet, readings: &mut impl Readings) {
-    let mut graph = Reduced::without_edges();
-    let owner = |leaf: u8| usize::from(sheet.owner[usize::from(leaf)]);
-    if sheet.edges.iter().all(|&(leaf, root)| graph.add(leaf, owner(leaf), usize::from(root))) {
-        Recursion { owner: &sheet.owner, fragments: sheet.roots.len(), readings }.enter(&mut graph);
+    let mut leaves = vec![Vec::new(); sheet.roots.len()];
+    for (leaf, &owner) in sheet.owner.iter().enumerate() {
+        leaves[usize::from(owner)].push(leaf as u8);
     }
+    let mut edges = vec![Vec::with_capacity(8); sheet.leaves.len().min(LEAVES)];
+    for &(leaf, fragment) in &sheet.edges {
+        edges[usize::from(leaf)].push(fragment);
+    }
+    Recursion { sheet, leaves, edges, readings }.enter();
 }

@@ -1,4 +1,4 @@
-//! A well-formed sheet as the two ways want it: fragments by ascending root, leaves by ascending number.
+//! A well-formed sheet as the other ways want it: fragments by ascending root, leaves by ascending number.
 use differential::sheet;
 use differential::Refused;
 

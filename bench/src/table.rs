@@ -1,11 +1,14 @@
 //! Tables in Markdown.
 use std::time::Duration;
 
+/// Ours, the recursion, the recursion on a reduced graph, free fragments.
+pub const WAYS: usize = 4;
+
 /// What is compared, and in which unit.
 pub fn heading(what: &str, unit: &str) {
     println!("{what}, {unit}. A ratio above 1 is in our favour.\n");
-    println!("| sheet | readings | ours | recursion | free fragments | recursion / ours | free / ours |");
-    println!("|---|---:|---:|---:|---:|---:|---:|");
+    println!("| sheet | readings | ours | recursion | reduced | free fragments | recursion / ours | reduced / ours | free / ours |");
+    println!("|---|---:|---:|---:|---:|---:|---:|---:|---:|");
 }
 
 fn cell(amount: Option<f64>) -> String {
@@ -16,16 +19,16 @@ fn cell(amount: Option<f64>) -> String {
     }
 }
 
-pub fn row(name: &str, readings: &str, [ours, recursion, free]: [Option<f64>; 3]) {
-    let ratio = |other: Option<f64>| cell(other.zip(ours).map(|(other, ours)| other / ours));
-    let cells = [ours, recursion, free].map(cell).join(" | ");
-    println!("| {name} | {readings} | {cells} | {} | {} |", ratio(recursion), ratio(free));
+pub fn row(name: &str, readings: &str, amounts: [Option<f64>; WAYS]) {
+    let ratio = |other: &Option<f64>| cell(other.zip(amounts[0]).map(|(other, ours)| other / ours));
+    let ratios: Vec<String> = amounts[1..].iter().map(ratio).collect();
+    println!("| {name} | {readings} | {} | {} |", amounts.map(cell).join(" | "), ratios.join(" | "));
 }
 
-pub fn milliseconds(times: [Duration; 3]) -> [Option<f64>; 3] {
+pub fn milliseconds(times: [Duration; WAYS]) -> [Option<f64>; WAYS] {
     times.map(|time| Some(time.as_secs_f64() * 1e3))
 }
 
-pub fn microseconds(times: [Duration; 3]) -> [Option<f64>; 3] {
+pub fn microseconds(times: [Duration; WAYS]) -> [Option<f64>; WAYS] {
     times.map(|time| Some(time.as_secs_f64() * 1e6))
 }
