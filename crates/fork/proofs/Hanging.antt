@@ -1,21 +1,20 @@
 -- The settled placing, byte by byte: at a root the leaf of its edge that stays, and no node elsewhere. A descent that
 -- no node lies between hangs directly, and what hangs has no node between, as a forest has one edge to each node.
-use Prim.Native.Nat.{ℕ, zero, suc, _+_, _≤_, _<_}
+use Prim.Native.Nat.{ℕ, _+_, _≤_, _<_}
 use mathlib.Core.Path.{_≡_, refl, sym, subst, _∙_}
 use mathlib.Core.List.{List}
-use mathlib.Core.Bool.{Bool, true, false, cond, not, _&&_, _||_, true≢false}
+use mathlib.Core.Bool.{true, false, cond, not, _&&_, _||_, true≢false}
 use mathlib.Core.Logic.{_⊎_, inl, inr, ⊎-elim}
-use native.Mathlib.Numerals.{add-one}
 use native.Mathlib.Omega.{arith}
 use lib.Dec.{eqb, ltb}
 use lib.ListN.{length, getD, set, take, drop, length-set, length-drop}
 use lib.Seq.{getD-set-same, getD-set-other, getD-take, getD-drop, ext-getD, length-take-le}
 use borrow.Author.Tests.{eqb-true, eqb-false, lt-ltb, le-ltb, ltb-true, ltb-false}
 use Rattle.finite.specs.Below.{all, count}
-use Rattle.finite.proofs.Laws.{by-bool, last-or-below, and-both, or-cases, all-at}
+use Rattle.finite.proofs.Laws.{by-bool, and-both, or-cases, all-at}
 use Rattle.nodeset.specs.Set.{mem, Removed}
 use Rattle.nodeset.specs.declared.NodeSet.{NodeSet}
-use Rattle.nodeset.proofs.Members.{Small, one-less}
+use Rattle.nodeset.proofs.Members.{Small, one-less, removed-member, removed-cases}
 use Rattle.graph.specs.Graph.{Graph, root, leaf, none, TreeEdge, one}
 use Rattle.graph.specs.Order.{Kept}
 use Rattle.graph.specs.Placing.{at, placing, hangs, Below, PlacingEdge}
@@ -29,8 +28,8 @@ use Rattle.listing.proofs.Redundancy.{Loopless}
 use Rattle.listing.proofs.Choosing.{Unforked}
 use Rattle.listing.proofs.Settled.{settled, settled-placing, settled-descent, descent-settled, settled-solved}
 use Rattle.fork.specs.Given.{Given}
-use Rattle.fork.specs.Staying.{Closed, stays, Heads}
-use Rattle.fork.proofs.Staying.{kept-rows, stays-kept}
+use Rattle.fork.specs.Staying.{Closed, headOf, Heads}
+use Rattle.fork.proofs.Staying.{kept-rows, kept-head, head-kept}
 
 -- the settled placing
 
@@ -87,59 +86,44 @@ module _ (g : Graph) (s : Shaped g) (n : Loopless g) where
         absurd (none-kept (at p r) (hung-kept (at p r) r (b .1) (b .0) refl)))
         (or-cases (eqb (at p r) none) (root g r && leaf g (at p r)) (settled-parts .1 r h))
 
--- the last number below n that has p, and `none`
+-- the byte b of v, when the leaves that are not left are passed: no node, where none of them has an edge to v, or a leaf that has
+abbrev pub Hung : NodeSet → NodeSet → List ℕ → List ℕ → NodeSet → ℕ → ℕ → Type 0
+Hung leaves roots low high left v b =
+    ((b ≡ none) × ((l : ℕ) → mem leaves l ≡ true → mem left l ≡ false → headOf roots low high l v ≡ false))
+    ⊎ ((mem leaves b ≡ true) × (headOf roots low high b v ≡ true))
 
-unfoldable pub hungIn : (ℕ → Bool) → ℕ → ℕ
-hungIn p zero = none
-hungIn p (suc k) = cond (p k) k (hungIn p k)
-
-hung-more : (p : ℕ → Bool) (k : ℕ) → hungIn p (k + 1) ≡ cond (p k) k (hungIn p k)
-unfolding hungIn
-hung-more p k = rw add-one
-
-hung-start : (p : ℕ → Bool) → hungIn p 0 ≡ none
-unfolding hungIn
-hung-start p = refl
-
-hung-cases : (p : ℕ → Bool) (n : ℕ) → ((hungIn p n ≡ none) × ((k : ℕ) → k < n → p k ≡ false)) ⊎ ((hungIn p n < n) × (p (hungIn p n) ≡ true))
-unfolding hungIn
-hung-cases p zero = inl (refl, λ k h. absurd (omega arith))
-hung-cases p (suc n) =
-    by-bool (p n)
-    (λ (t : p n ≡ true). rw t (inr (omega arith, t)))
-    (λ (t : p n ≡ false).
-    rw t
-    (⊎-elim
-    (λ (x : (hungIn p n ≡ none) × ((k : ℕ) → k < n → p k ≡ false)).
-    inl (x .0, λ k h. ⊎-elim (λ (i : k ≡ n). rw i t) (λ (l : k < n). x .1 k l) (last-or-below h)))
-    (λ (x : (hungIn p n < n) × (p (hungIn p n) ≡ true)). inr (omega (arith, x .0), x .1))
-    (hung-cases p n)))
-
-module _ (g : Graph) (n : ℕ) (leaves roots : NodeSet) (low high : List ℕ) (is : Given g n leaves roots low high) (one-each : Unforked g) where
-  hung-settled : (v : ℕ) → v < n → hungIn (λ l. stays leaves roots low high l v) n ≡ at (settled g) v
-  hung-settled v h =
+module _
+    (g : Graph)
+    (n : ℕ)
+    (leaves roots : NodeSet)
+    (low high : List ℕ)
+    (is : Given g n leaves roots low high)
+    (one-each : Unforked g)
+    (left : NodeSet)
+    (none-left : (k : ℕ) → k < 128 → mem left k ≡ false) where
+  hung-settled : (v : ℕ) → v < n → (b : ℕ) → Hung leaves roots low high left v b → b ≡ at (settled g) v
+  hung-settled v h b hung =
       let e = is .ends .nodes in
-      let p : ℕ → Bool = λ l. stays leaves roots low high l v in
       ⊎-elim
-      (λ (x : (hungIn p n ≡ none) × ((k : ℕ) → k < n → p k ≡ false)).
+      (λ (x : (b ≡ none) × ((l : ℕ) → mem leaves l ≡ true → mem left l ≡ false → headOf roots low high l v ≡ false)).
       x .0
       ∙ sym (settled-none g (is .shaped) (is .loopless) one-each v (omega arith) (λ l k.
-      let b = kept-rows g (is .shaped) (is .loopless) l v .0 k in
-      true≢false (sym (stays-kept g n leaves roots low high is l v .1 k) ∙ x .1 l (omega (arith, leaf-within l (b .0)))))))
-      (λ (x : (hungIn p n < n) × (p (hungIn p n) ≡ true)).
-      sym (settled-kept g (is .shaped) (is .loopless) one-each (hungIn p n) v (stays-kept g n leaves roots low high is (hungIn p n) v .0 (x .1))))
-      (hung-cases p n)
+      let t = kept-head g n leaves roots low high is l v k in
+      true≢false (sym (t .1) ∙ x .1 l (t .0) (none-left l (leaf-small l (sym (is .ends .leaves-are l) ∙ t .0)))))))
+      (λ (x : (mem leaves b ≡ true) × (headOf roots low high b v ≡ true)).
+      sym (settled-kept g (is .shaped) (is .loopless) one-each b v (head-kept g n leaves roots low high is b v (x .0) (x .1))))
+      hung
     where
-      leaf-within : (l : ℕ) → leaf g l ≡ true → l < n
-      leaf-within l t = omega (arith, leaf-below g l t, is .ends .nodes)
+      leaf-small : (l : ℕ) → leaf g l ≡ true → l < 128
+      leaf-small l t = omega (arith, leaf-below g l t, is .shaped .few-nodes)
 
-  pub settles : (out : List ℕ) → n ≤ length out → ((v : ℕ) → v < n → getD out v 0 ≡ hungIn (λ l. stays leaves roots low high l v) n) → take n out ≡ settled g
+  pub settles : (out : List ℕ) → n ≤ length out → ((v : ℕ) → v < n → Hung leaves roots low high left v (getD out v 0)) → take n out ≡ settled g
   settles out h f =
       let e = is .ends .nodes in
       let long : length (take n out) ≡ n = length-take-le n out h in
       ext-getD 0 (take n out) (settled g) (long ∙ e ∙ sym (settled-parts g (is .shaped) (is .loopless) .0)) (λ i b.
       let small : i < n = omega arith in
-      getD-take n out i 0 small ∙ f i small ∙ hung-settled i small)
+      getD-take n out i 0 small ∙ hung-settled i small (getD out i 0) (f i small))
 
 pub rest-same : (n : ℕ) (old mid new : List ℕ) → length mid ≡ length old → length new ≡ length mid → ((v : ℕ) → getD mid v 0 ≡ cond (ltb v n) none (getD old v 0)) → ((v : ℕ) → n ≤ v → getD new v 0 ≡ getD mid v 0)
     → drop n new ≡ drop n old
@@ -216,30 +200,40 @@ clear-more v old new h so k =
 
 -- one leaf after the other
 
-pub record SettledSo (n : ℕ) (leaves roots : NodeSet) (low high : List ℕ) (old : List ℕ) (l : ℕ) (new : List ℕ) : Type 0 where
+pub record SettledSo (n : ℕ) (leaves roots : NodeSet) (low high : List ℕ) (old : List ℕ) (left : NodeSet) (new : List ℕ) : Type 0 where
   pub long : length new ≡ length old
   pub rest : (v : ℕ) → n ≤ v → getD new v 0 ≡ getD old v 0
-  pub hung : Closed low high → (v : ℕ) → v < n → getD new v 0 ≡ hungIn (λ m. stays leaves roots low high m v) l
+  pub of-set : (l : ℕ) → mem left l ≡ true → mem leaves l ≡ true
+  pub hung : Closed low high → (v : ℕ) → v < n → Hung leaves roots low high left v (getD new v 0)
 
-pub settle-start : (n : ℕ) (leaves roots : NodeSet) (low high : List ℕ) (old new : List ℕ) → ClearSo n old new → SettledSo n leaves roots low high new 0 new
+pub settle-start : (n : ℕ) (leaves roots : NodeSet) (low high : List ℕ) (old new : List ℕ) → ClearSo n old new → SettledSo n leaves roots low high new leaves new
 settle-start n leaves roots low high old new clear =
     record {
       long = refl;
       rest = λ v h. refl;
-      hung = λ c v h. clear v ∙ rw (lt-ltb v n h) (sym (hung-start (λ m. stays leaves roots low high m v)));
+      of-set = λ l h. h;
+      hung = λ c v h. inl (clear v ∙ rw (lt-ltb v n h), λ l t f. absurd (true≢false (sym t ∙ f)));
     }
 
-pub settle-more : (n : ℕ) (leaves roots : NodeSet) (low high : List ℕ) (old : List ℕ) (l : ℕ) (to : NodeSet) (new new′ : List ℕ) → ((v : ℕ) → mem roots v ≡ true → v < n)
-    → Heads leaves roots low high l to → length new′ ≡ length new → ((v : ℕ) → getD new′ v 0 ≡ cond (mem to v) l (getD new v 0))
-    → SettledSo n leaves roots low high old l new → SettledSo n leaves roots low high old (l + 1) new′
-settle-more n leaves roots low high old l to new new′ within is long hang so =
+pub settle-more : (n : ℕ) (leaves roots : NodeSet) (low high : List ℕ) (old : List ℕ) (left left′ : NodeSet) (l : ℕ) (to : NodeSet) (new new′ : List ℕ) → ((v : ℕ) → mem roots v ≡ true → v < n)
+    → mem left l ≡ true → Removed left l left′ → Heads roots low high l to → length new′ ≡ length new → ((v : ℕ) → getD new′ v 0 ≡ cond (mem to v) l (getD new v 0))
+    → SettledSo n leaves roots low high old left new → SettledSo n leaves roots low high old left′ new′
+settle-more n leaves roots low high old left left′ l to new new′ within in-left gone is long hang so =
     record {
       long = long ∙ so .long;
       rest = λ v h.
           let out : mem to v ≡ false = not-holding (mem to v) (λ t. let b : v < n = within v (is .of-roots v t) in omega arith) in
           hang v ∙ rw out (so .rest v h);
+      of-set = λ k m. so .of-set k (removed-member left l left′ gone k m .0);
       hung = λ c v h.
-          hang v
-          ∙ rw (is .exact c v, so .hung c v h)
-          (sym (hung-more (λ m. stays leaves roots low high m v) l));
+          rw (hang v)
+          (by-bool (mem to v)
+          (λ (t : mem to v ≡ true). rw t (inr (so .of-set l in-left, sym (is .exact c v) ∙ t)))
+          (λ (t : mem to v ≡ false).
+          rw t
+          (⊎-elim
+          (λ (x : (getD new v 0 ≡ none) × ((m : ℕ) → mem leaves m ≡ true → mem left m ≡ false → headOf roots low high m v ≡ false)).
+          inl (x .0, λ m i f. removed-cases left l left′ gone m f (λ e. rw e (sym (is .exact c v) ∙ t)) (λ _ out. x .1 m i out)))
+          (λ (x : (mem leaves (getD new v 0) ≡ true) × (headOf roots low high (getD new v 0) v ≡ true)). inr x)
+          (so .hung c v h))));
     }

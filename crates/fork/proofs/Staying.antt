@@ -21,7 +21,7 @@ use Rattle.paths.proofs.Fragments.{leaf-childless}
 use Rattle.listing.proofs.Redundancy.{Loopless, kept-iff}
 use Rattle.rows.specs.Rows.{inRow}
 use Rattle.fork.specs.Given.{Given}
-use Rattle.fork.specs.Staying.{Closed, topIn, stays}
+use Rattle.fork.specs.Staying.{Closed, topIn, headOf, stays}
 
 pub kept-rows : (g : Graph) → Shaped g → Loopless g → (l r : ℕ)
     → Kept g l r ↔ ((leaf g l ≡ true) × (root g r ≡ true) × Descent g l r × ((x : ℕ) → Descent g l x → Descent g x r → ⊥))
@@ -63,7 +63,7 @@ module _ (g : Graph) (n : ℕ) (leaves roots : NodeSet) (low high : List ℕ) (i
   closed u v w p q = is .rows .row-is u w .1 (path-trans (is .rows .row-is u v .0 p) (is .rows .row-is v w .0 q))
 
   stays-is-kept : (l v : ℕ) → stays leaves roots low high l v ≡ true → Kept g l v
-  unfolding stays topIn
+  unfolding stays headOf topIn
   stays-is-kept l v h =
       let between : ℕ → Bool = λ x. (inRow low high l x && mem roots x) && inRow low high x v in
       let a = and-both (mem leaves l) ((inRow low high l v && mem roots v) && not (any 128 between)) h in
@@ -87,7 +87,7 @@ module _ (g : Graph) (n : ℕ) (leaves roots : NodeSet) (low high : List ℕ) (i
       )
 
   kept-stays : (l v : ℕ) → Kept g l v → stays leaves roots low high l v ≡ true
-  unfolding stays topIn
+  unfolding stays headOf topIn
   kept-stays l v k =
       let between : ℕ → Bool = λ x. (inRow low high l x && mem roots x) && inRow low high x v in
       let d = kept-rows g (is .shaped) (is .loopless) l v .0 k in
@@ -101,3 +101,11 @@ module _ (g : Graph) (n : ℕ) (leaves roots : NodeSet) (low high : List ℕ) (i
 
   pub stays-kept : (l v : ℕ) → (stays leaves roots low high l v ≡ true) ↔ Kept g l v
   stays-kept l v = (stays-is-kept l v, kept-stays l v)
+
+  pub kept-head : (l v : ℕ) → Kept g l v → (mem leaves l ≡ true) × (headOf roots low high l v ≡ true)
+  unfolding stays
+  kept-head l v k = and-both (mem leaves l) (headOf roots low high l v) (kept-stays l v k)
+
+  pub head-kept : (l v : ℕ) → mem leaves l ≡ true → headOf roots low high l v ≡ true → Kept g l v
+  unfolding stays
+  head-kept l v t h = stays-is-kept l v (and-intro (mem leaves l) (headOf roots low high l v) t h)

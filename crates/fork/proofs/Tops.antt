@@ -8,13 +8,13 @@ use lib.Dec.{eqb}
 use borrow.Author.Tests.{eq-eqb, eqb-true, not-true}
 use Rattle.finite.specs.Below.{any, count}
 use Rattle.finite.proofs.Laws.{by-bool, and-both, and-intro, and-false, any-at, any-none, any-ext}
-use Rattle.nodeset.specs.Set.{mem, Empty, Removed, Intersection, Difference}
+use Rattle.nodeset.specs.Set.{mem, Removed, Intersection, Difference}
 use Rattle.nodeset.specs.declared.NodeSet.{NodeSet}
 use Rattle.nodeset.proofs.Members.{Small}
 use Rattle.finite.proofs.Laws.{not-holding, test-ext}
 use Rattle.finite.proofs.Counting.{count-grows}
 use Rattle.rows.specs.Rows.{inRow}
-use Rattle.fork.specs.Staying.{Closed, topIn, stays, Tops, Heads}
+use Rattle.fork.specs.Staying.{Closed, topIn, headOf, Tops, Heads}
 
 pub record TopsSo (set : NodeSet) (low high : List ℕ) (top left : NodeSet) : Type 0 where
   pub top-of : (v : ℕ) → mem top v ≡ true → mem set v ≡ true
@@ -116,26 +116,24 @@ tops-end set low high top left small so none = record { of-set = so .top-of; exa
         let y = so .out v (b .0) e in
         absurd (true≢false (sym (any-at 128 under (y .0) (small (y .0) (y .1)) (and-intro (mem set (y .0)) (inRow low high (y .0) v) (y .1) (y .2))) ∙ not-true (any 128 under) (b .1)))))
 
--- the roots in a leaf's row
+-- the roots in a row
 
 top-ext : (p q : ℕ → Bool) (low high : List ℕ) (v : ℕ) → ((x : ℕ) → p x ≡ q x) → topIn p low high v ≡ topIn q low high v
 unfolding topIn
 top-ext p q low high v f =
     rw (f v, any-ext 128 (λ x. p x && inRow low high x v) (λ x. q x && inRow low high x v) (λ x h. rw (f x)))
 
-pub heads-leaf : (leaves roots : NodeSet) (low high : List ℕ) (l : ℕ) (row set r : NodeSet) → mem leaves l ≡ true → ((v : ℕ) → mem row v ≡ inRow low high l v) → Intersection row roots set → Tops set low high r
-    → Heads leaves roots low high l r
-unfolding stays
-heads-leaf leaves roots low high l row set r h is-row is-set tops =
+pub heads-row : (roots : NodeSet) (low high : List ℕ) (l : ℕ) (row set r : NodeSet) → ((v : ℕ) → mem row v ≡ inRow low high l v) → Intersection row roots set → Tops set low high r
+    → Heads roots low high l r
+unfolding headOf
+heads-row roots low high l row set r is-row is-set tops =
     record {
       of-roots = λ v m. and-both (mem row v) (mem roots v) (sym (is-set v) ∙ tops .of-set v m) .1;
       exact = λ closed v.
           tops .exact closed v
-          ∙ top-ext (mem set) (λ x. inRow low high l x && mem roots x) low high v (λ x. is-set x ∙ rw (is-row x))
-          ∙ rw h;
+          ∙ top-ext (mem set) (λ x. inRow low high l x && mem roots x) low high v (λ x. is-set x ∙ rw (is-row x));
     }
 
-pub heads-none : (leaves roots : NodeSet) (low high : List ℕ) (l : ℕ) (r : NodeSet) → mem leaves l ≡ false → Empty r → Heads leaves roots low high l r
-unfolding stays
-heads-none leaves roots low high l r h is =
-    record { of-roots = λ v m. absurd (true≢false (sym m ∙ is v)); exact = λ closed v. is v ∙ rw h }
+pub no-head : (roots : NodeSet) (low high : List ℕ) (l v : ℕ) → inRow low high l v ≡ false → headOf roots low high l v ≡ false
+unfolding headOf topIn
+no-head roots low high l v e = rw e

@@ -15,15 +15,20 @@ Closed low high = (u v w : ℕ) → inRow low high u v ≡ true → inRow low hi
 unfoldable pub topIn : (ℕ → Bool) → List ℕ → List ℕ → ℕ → Bool
 topIn set low high v = set v && not (any 128 (λ x. set x && inRow low high x v))
 
--- an edge from the leaf l to the root v stays: v is in row l, and in the row of no root there
-unfoldable pub stays : NodeSet → NodeSet → List ℕ → List ℕ → ℕ → ℕ → Bool
+-- v is a root in row l, and in the row of no root there
+unfoldable pub headOf : NodeSet → List ℕ → List ℕ → ℕ → ℕ → Bool
 unfolding topIn
-stays leaves roots low high l v = mem leaves l && topIn (λ x. inRow low high l x && mem roots x) low high v
+headOf roots low high l v = topIn (λ x. inRow low high l x && mem roots x) low high v
+
+-- an edge from the leaf l to the root v stays
+unfoldable pub stays : NodeSet → NodeSet → List ℕ → List ℕ → ℕ → ℕ → Bool
+unfolding headOf
+stays leaves roots low high l v = mem leaves l && headOf roots low high l v
 
 pub record Tops (set : NodeSet) (low high : List ℕ) (r : NodeSet) : Type 0 where
   pub of-set : (v : ℕ) → mem r v ≡ true → mem set v ≡ true
   pub exact : Closed low high → (v : ℕ) → mem r v ≡ topIn (mem set) low high v
 
-pub record Heads (leaves roots : NodeSet) (low high : List ℕ) (l : ℕ) (r : NodeSet) : Type 0 where
+pub record Heads (roots : NodeSet) (low high : List ℕ) (l : ℕ) (r : NodeSet) : Type 0 where
   pub of-roots : (v : ℕ) → mem r v ≡ true → mem roots v ≡ true
-  pub exact : Closed low high → (v : ℕ) → mem r v ≡ stays leaves roots low high l v
+  pub exact : Closed low high → (v : ℕ) → mem r v ≡ headOf roots low high l v

@@ -46,8 +46,11 @@ pub fn settle(low: &[u64], high: &[u64], n: usize, leaves: NodeSet, roots: NodeS
         ⌝ }
 {
     clear(out, n);
-    for l in 0..n {
-        let to = heads(low, high, leaves, roots, l);
+    let mut left = leaves;
+    while !left.is_empty() {
+        let l = left.lowest();
+        let to = heads(low, high, roots, l);
         hang(out, to, l);
+        left = left.without(l);
     }
 }

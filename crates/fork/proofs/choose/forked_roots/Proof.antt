@@ -1,25 +1,19 @@
 -- The invariant: the roots that one and two of the leaves passed have edges to.
 use denote.Ref.{now}
-use Prim.Native.Nat.{ℕ, _-_, _≤_}
-use mathlib.Core.Path.{_≡_, sym, _∙_}
 use native.Mathlib.Omega.{arith}
-use mathlib.Core.Bool.{Bool}
-use lib.Dec.{leb}
 use borrow.Author.Needs.{needs}
 use Rattle.finite.specs.Below.{count}
 use Rattle.nodeset.specs.Set.{mem}
-use Rattle.fork.specs.Staying.{Closed, stays}
-use Rattle.finite.proofs.Counting.{none-counted, once-more, twice-more}
+use Rattle.nodeset.proofs.Members.{no-member, lowest-in, one-less}
+use Rattle.fork.proofs.Forks.{ForkedSo, forked-start, forked-more, forked-end}
 use Rattle.fork.proofs.choose.forked_roots.Statement.{statement}
 use Rattle.fork.proofs.choose.forked_roots.Tie as tie
 
 abbrev Inv-loop : tie.InvT-loop
-Inv-loop low high n leaves roots once₀ twice₀ l₀ once twice l =
-    (l ≤ n)
-    × (Closed low high → (v : ℕ) → (mem once v ≡ leb 1 (count l (λ m. stays leaves roots low high m v))) × (mem twice v ≡ leb 2 (count l (λ m. stays leaves roots low high m v))))
+Inv-loop low high roots once₀ twice₀ left₀ once twice left = ForkedSo left₀ roots low high left once twice
 
 abbrev μ-loop : tie.MeasureT-loop
-μ-loop low high n leaves roots once₀ twice₀ l₀ once twice l = n - l
+μ-loop low high roots once₀ twice₀ left₀ once twice left = count 128 (mem left)
 
 empty-requires : tie.Need-empty-requires Inv-loop μ-loop
 empty-requires c κs = search needs
@@ -28,16 +22,20 @@ empty-requires-2 : tie.Need-empty-requires-2 Inv-loop μ-loop
 empty-requires-2 c κs = search needs
 
 loop-holds : tie.Need-loop-holds Inv-loop μ-loop
-loop-holds c =
-    let a = c .before .before .before .before .args in (
-      omega arith,
-      λ closed v.
-          let p : ℕ → Bool = λ m. stays (a .leaves) (a .roots) (now (a .low)) (now (a .high)) m v in
-          (c .before .empty .ensures v ∙ sym (none-counted 1 p (omega arith)), c .empty2 .ensures v ∙ sym (none-counted 2 p (omega arith))),
-    )
+loop-holds c = forked-start _ _ _ _ (c .before .empty .result) (c .empty2 .result) (c .before .empty .ensures) (c .empty2 .ensures)
+
+is-empty-requires : tie.Need-is-empty-requires Inv-loop μ-loop
+is-empty-requires c κs = search needs
+
+lowest-requires : tie.Need-lowest-requires Inv-loop μ-loop
+lowest-requires c κs = search needs
 
 heads-requires : tie.Need-heads-requires Inv-loop μ-loop
-heads-requires c κs = search needs
+heads-requires c κs =
+    let e = c .before .before in
+    let l = e .before .loop in
+    let s = e .before .before .before .before .before .before in
+    (s .pre, lowest-in (l .left) _ (c .lowest .result) (e .is-empty .ensures) (c .before .if1 .taken) (c .lowest .ensures) .0)
 
 intersection-requires : tie.Need-intersection-requires Inv-loop μ-loop
 intersection-requires c κs = search needs
@@ -48,31 +46,38 @@ union-requires c κs = search needs
 union-requires-2 : tie.Need-union-requires-2 Inv-loop μ-loop
 union-requires-2 c κs = search needs
 
-add-l : tie.Need-add-l Inv-loop μ-loop
-add-l c = search needs
+without-requires : tie.Need-without-requires Inv-loop μ-loop
+without-requires c κs =
+    let k = c .before .before .before .before in
+    let e = k .before .before in
+    let l = e .before .loop in
+    lowest-in (l .left) _ (k .lowest .result) (e .is-empty .ensures) (k .before .if1 .taken) (k .lowest .ensures) .0
 
 loop-less : tie.Need-loop-less Inv-loop μ-loop
-loop-less c = search needs
+loop-less c =
+    let k = c .before .before .before .before .before in
+    let e = k .before .before in
+    let l = e .before .loop in
+    let x = lowest-in (l .left) _ (k .lowest .result) (e .is-empty .ensures) (k .before .if1 .taken) (k .lowest .ensures) in
+    omega (arith, one-less (l .left) (k .lowest .result) (c .without .result) (x .0) (x .1) (c .without .ensures))
 
 loop-again : tie.Need-loop-again Inv-loop μ-loop
 loop-again c =
-    let a = c .before .before .before .before .before .before .before .before .before .before .args in
-    let l = c .before .before .before .before .before .loop in
-    let h = c .before .before .before .heads in (
-      omega arith,
-      λ closed v.
-          let p : ℕ → Bool = λ m. stays (a .leaves) (a .roots) (now (a .low)) (now (a .high)) m v in
-          let i = l .inv .1 closed v in
-          let e = h .ensures .exact closed v in
-          (c .union2 .ensures v ∙ rw (e, i .0) (once-more (l .l) p), c .before .union .ensures v ∙ rw (c .before .before .intersection .ensures v, e, i .0, i .1) (twice-more (l .l) p)),
-    )
+    let u = c .before in
+    let h = u .before .before .before in
+    let k = h .before in
+    let e = k .before .before in
+    let l = e .before .loop in
+    let a = e .before .before .before .before .before .before .args in
+    let x = lowest-in (l .left) _ (k .lowest .result) (e .is-empty .ensures) (k .before .if1 .taken) (k .lowest .ensures) in
+    forked-more (a .leaves) (a .roots) (now (a .low)) (now (a .high)) (l .left) (l .once) (l .twice) (k .lowest .result) (h .heads .result) (u .before .before .intersection .result) (u .before .union .result) (u .union2 .result) (c .without .result) (l .inv) (x .0) (x .1) (h .heads .ensures)
+    (u .before .before .intersection .ensures) (u .before .union .ensures) (u .union2 .ensures) (c .without .ensures)
 
 returns : tie.Need-returns Inv-loop μ-loop
 returns c =
-    let a = c .before .before .before .before .before .before .args in
-    let l = c .before .loop in
-    let all : l .l ≡ a .n = omega arith in
-    λ closed v. l .inv .1 closed v .1 ∙ rw all
+    let e = c .before in
+    let l = e .before .loop in
+    forked-end _ _ _ _ (l .left) (l .once) (l .twice) (l .inv) (no-member (l .left) _ (e .is-empty .ensures) (c .if1 .left))
 
 pub forked-roots-spec : {M : Type 1} → statement M
 forked-roots-spec =
@@ -83,11 +88,13 @@ forked-roots-spec =
     empty-requires
     empty-requires-2
     loop-holds
+    is-empty-requires
+    lowest-requires
     heads-requires
     intersection-requires
     union-requires
     union-requires-2
-    add-l
+    without-requires
     loop-less
     loop-again
     returns)

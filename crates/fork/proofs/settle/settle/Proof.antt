@@ -1,19 +1,21 @@
 -- The invariant: the leaves passed stand where their edges go to.
 use denote.Ref.{now}
-use Prim.Native.Nat.{_-_, _≤_}
-use mathlib.Core.Path.{_≡_, _∙_}
+use mathlib.Core.Path.{_∙_}
 use native.Mathlib.Omega.{arith}
 use borrow.Author.Needs.{needs}
+use Rattle.finite.specs.Below.{count}
+use Rattle.nodeset.specs.Set.{mem}
+use Rattle.nodeset.proofs.Members.{no-member, lowest-in, one-less}
 use Rattle.fork.proofs.Staying.{closed}
 use Rattle.fork.proofs.Hanging.{SettledSo, settle-start, settle-more, settles, rest-same}
 use Rattle.fork.proofs.settle.settle.Statement.{statement}
 use Rattle.fork.proofs.settle.settle.Tie as tie
 
 abbrev Inv-loop : tie.InvT-loop
-Inv-loop low high n leaves roots out₀ l₀ out l = (l ≤ n) × SettledSo n leaves roots low high out₀ l out
+Inv-loop low high n roots out₀ left₀ out left = SettledSo n left₀ roots low high out₀ left out
 
 abbrev μ-loop : tie.MeasureT-loop
-μ-loop low high n leaves roots out₀ l₀ out l = n - l
+μ-loop low high n roots out₀ left₀ out left = count 128 (mem left)
 
 clear-requires : tie.Need-clear-requires Inv-loop μ-loop
 clear-requires c κs = search needs
@@ -21,49 +23,76 @@ clear-requires c κs = search needs
 loop-holds : tie.Need-loop-holds Inv-loop μ-loop
 loop-holds c =
     let a = c .before .before .before .before .before .before .before .args in
-    (omega arith, settle-start (a .n) (a .leaves) (a .roots) (now (a .low)) (now (a .high)) (now (a .out)) (c .before .before .clear .last .0) (c .before .before .clear .ensures))
+    settle-start (a .n) (a .leaves) (a .roots) (now (a .low)) (now (a .high)) (now (a .out)) (c .before .before .clear .last .0) (c .before .before .clear .ensures)
+
+is-empty-requires : tie.Need-is-empty-requires Inv-loop μ-loop
+is-empty-requires c κs = search needs
+
+lowest-requires : tie.Need-lowest-requires Inv-loop μ-loop
+lowest-requires c κs = search needs
 
 heads-requires : tie.Need-heads-requires Inv-loop μ-loop
-heads-requires c κs = search needs
+heads-requires c κs =
+    let e = c .before .before in
+    let l = e .before .loop in
+    let s = e .before .before .before .before .before .before .before .before .before in
+    (s .pre .0, lowest-in (l .left) _ (c .lowest .result) (e .is-empty .ensures) (c .before .if1 .taken) (c .lowest .ensures) .0)
 
 hang-requires : tie.Need-hang-requires Inv-loop μ-loop
 hang-requires c κs =
-    let s = c .before .before .before .before .before .before .before .before .before .before .before in
-    let l = c .before .before .before .loop in
-    let long = l .inv .1 .long in
-    let kept = c .before .before .before .before .before .before .clear .kept .0 in
-    (omega arith, λ v m. omega (arith, s .pre .3 v (c .before .heads .ensures .of-roots v m)))
+    let k = c .before .before in
+    let e = k .before .before in
+    let l = e .before .loop in
+    let s = e .before .before .before .before .before .before .before .before .before in
+    let long = l .inv .long in
+    let kept = e .before .before .before .before .clear .kept .0 in
+    (lowest-in (l .left) _ (k .lowest .result) (e .is-empty .ensures) (k .before .if1 .taken) (k .lowest .ensures) .0, λ v m. omega (arith, s .pre .3 v (c .before .heads .ensures .of-roots v m)))
 
-add-l : tie.Need-add-l Inv-loop μ-loop
-add-l c = search needs
+without-requires : tie.Need-without-requires Inv-loop μ-loop
+without-requires c κs =
+    let k = c .before .before .before .before .before in
+    let e = k .before .before in
+    let l = e .before .loop in
+    lowest-in (l .left) _ (k .lowest .result) (e .is-empty .ensures) (k .before .if1 .taken) (k .lowest .ensures) .0
 
 loop-less : tie.Need-loop-less Inv-loop μ-loop
-loop-less c = search needs
+loop-less c =
+    let k = c .before .before .before .before .before .before in
+    let e = k .before .before in
+    let l = e .before .loop in
+    let x = lowest-in (l .left) _ (k .lowest .result) (e .is-empty .ensures) (k .before .if1 .taken) (k .lowest .ensures) in
+    omega (arith, one-less (l .left) (k .lowest .result) (c .without .result) (x .0) (x .1) (c .without .ensures))
 
 loop-again : tie.Need-loop-again Inv-loop μ-loop
 loop-again c =
-    let s = c .before .before .before .before .before .before .before .before .before .before .before .before .before .before in
+    let g = c .before .before .before in
+    let h = g .before .before in
+    let k = h .before in
+    let e = k .before .before in
+    let l = e .before .loop in
+    let s = e .before .before .before .before .before .before .before .before .before in
     let a = s .args in
-    let l = c .before .before .before .before .before .before .loop in
-    let h = c .before .before .before .before .heads in
-    let k = c .before .before .hang in
-    (omega arith, settle-more (a .n) (a .leaves) (a .roots) (now (a .low)) (now (a .high)) _ (l .l) (h .result) (l .out) (k .last .0) (s .pre .3) (h .ensures) (k .kept .0) (k .ensures) (l .inv .1))
+    let x = lowest-in (l .left) _ (k .lowest .result) (e .is-empty .ensures) (k .before .if1 .taken) (k .lowest .ensures) in
+    settle-more (a .n) (a .leaves) (a .roots) (now (a .low)) (now (a .high)) _ (l .left) (c .without .result) (k .lowest .result) (h .heads .result) (l .out) (g .hang .last .0) (s .pre .3) (x .1) (c .without .ensures) (h .heads .ensures) (g .hang .kept .0) (g .hang .ensures) (l .inv)
 
 same-length : tie.Need-same-length Inv-loop μ-loop
-same-length c = c .before .loop .inv .1 .long ∙ c .before .before .before .before .clear .kept .0
+same-length c =
+    let l = c .before .before in
+    l .loop .inv .long ∙ l .before .before .before .clear .kept .0
 
 returns : tie.Need-returns Inv-loop μ-loop
 returns c =
-    let s = c .before .before .before .before .before .before .before .before .before in
+    let e = c .before in
+    let l = e .before .loop in
+    let k = e .before .before .before .before .clear in
+    let s = e .before .before .before .before .before .before .before .before .before in
     let a = s .args in
-    let l = c .before .loop in
-    let k = c .before .before .before .before .clear in
-    let long = l .inv .1 .long in
+    let long = l .inv .long in
     let kept = k .kept .0 in
-    let all : l .l ≡ a .n = omega arith in (
-      rest-same (a .n) (now (a .out)) (k .last .0) (l .out) (k .kept .0) (l .inv .1 .long) (k .ensures) (l .inv .1 .rest),
+    let none-left = no-member (l .left) _ (e .is-empty .ensures) (c .if1 .left) in (
+      rest-same (a .n) (now (a .out)) (k .last .0) (l .out) kept long (k .ensures) (l .inv .rest),
       λ g is one-each.
-          settles g (a .n) (a .leaves) (a .roots) (now (a .low)) (now (a .high)) is one-each (l .out) (omega arith) (λ v h. l .inv .1 .hung (closed g (a .n) (a .leaves) (a .roots) (now (a .low)) (now (a .high)) is) v h ∙ rw all),
+          settles g (a .n) (a .leaves) (a .roots) (now (a .low)) (now (a .high)) is one-each (l .left) none-left (l .out) (omega arith) (l .inv .hung (closed g (a .n) (a .leaves) (a .roots) (now (a .low)) (now (a .high)) is)),
     )
 
 pub settle-spec : {M : Type 1} → statement M
@@ -74,9 +103,11 @@ settle-spec =
     μ-loop
     clear-requires
     loop-holds
+    is-empty-requires
+    lowest-requires
     heads-requires
     hang-requires
-    add-l
+    without-requires
     loop-less
     loop-again
     same-length
