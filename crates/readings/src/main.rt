@@ -3,6 +3,7 @@ use graph::Count;
 use graph::Refusal;
 use libc::STDOUT_FILENO;
 use nodeset::NodeSet;
+use numbered::LAST;
 use numbered::PAIRS;
 use numbered::count;
 use pages::fill;
@@ -12,11 +13,17 @@ use start::begin;
 use text::count_line;
 use text::refused_line;
 use walk::steps::first;
+ghost use mathlib.Core.Path.{_≡_};
+ghost use mathlib.Core.Bool.{false};
+ghost use Prim.Native.Nat.{min};
+ghost use lib.ListN.{length};
+ghost use Rattle.graph.specs.Order.{limit, countAnswer};
+ghost use Rattle.listing.proofs.Readings.{listed};
 ghost use Rattle.start.specs.Given.{Given};
 ghost use Rattle.walk.specs.Given.{Sheet};
 
-// A page is written at once.
-const PAGE: usize = 32768;
+// A page is written at once. A list that fits into one is walked through once.
+const PAGE: usize = 262144;
 
 fn print_refusal(why: Refusal) {
     let mut out = [0u8; 11];
@@ -30,7 +37,72 @@ fn print_count(count: Count) {
     io::write_all(STDOUT_FILENO, &out[..end]);
 }
 
-// The lines of the readings, in one walk.
+// The count. A page that no more follow has it as its last number, unless that is the last number there is. Else a walk
+// of its own counts.
+fn total(
+    parent: &[u8],
+    owner: &[u8],
+    n: usize,
+    leaves: NodeSet,
+    roots: NodeSet,
+    base_low: &[u64],
+    base_high: &[u64],
+    last: usize,
+    more: bool,
+) -> Count
+    requires { ⌜ Sheet n (now parent) (now owner) leaves roots (now «base_low») (now «base_high») ⌝ }
+    requires { ⌜
+        ((s : Sheet n (now parent) (now owner) leaves roots (now «base_low») (now «base_high»)) →
+        more ≡ false → last ≡ min (length (listed (s .graph))) limit)
+        ⌝ }
+    ensures { λ r. ⌜
+        ((s : Sheet n (now (parent .entry)) (now (owner .entry)) leaves roots (now («base_low» .entry)) (now («base_high» .entry))) →
+        r ≡ countAnswer (length (listed (s .graph))))
+        ⌝ }
+{
+    if last < LAST {
+        if !more {
+            return Count::Exactly(last);
+        }
+    }
+    count(parent, owner, n, leaves, roots, base_low, base_high)
+}
+
+// Line 1, before the first page.
+fn print_total(
+    parent: &[u8],
+    owner: &[u8],
+    n: usize,
+    leaves: NodeSet,
+    roots: NodeSet,
+    base_low: &[u64],
+    base_high: &[u64],
+    passed: usize,
+    last: usize,
+    more: bool,
+)
+    requires { ⌜ Sheet n (now parent) (now owner) leaves roots (now «base_low») (now «base_high») ⌝ }
+    requires { ⌜
+        ((s : Sheet n (now parent) (now owner) leaves roots (now «base_low») (now «base_high»)) →
+        more ≡ false → last ≡ min (length (listed (s .graph))) limit)
+        ⌝ }
+{
+    if passed == 0 {
+        print_count(total(
+            parent,
+            owner,
+            n,
+            leaves,
+            roots,
+            base_low,
+            base_high,
+            last,
+            more,
+        ));
+    }
+}
+
+// The count and the lines of the readings.
 fn print_readings(
     parent: &[u8],
     owner: &[u8],
@@ -79,6 +151,18 @@ fn print_readings(
             passed,
             &mut out,
         );
+        print_total(
+            parent,
+            owner,
+            n,
+            leaves,
+            roots,
+            base_low,
+            base_high,
+            passed,
+            page.last,
+            page.more,
+        );
         let bytes = page.bytes;
         io::write_all(STDOUT_FILENO, &out[..bytes]);
         depth = page.depth;
@@ -104,7 +188,6 @@ fn print_list(parent: &[u8], heads_low: &[u64], heads_high: &[u64], n: usize)
         &mut high,
     );
     if begun.solvable {
-        print_count(count(parent, &owner, n, begun.leaves, begun.roots, &low, &high));
         print_readings(parent, &owner, n, begun.leaves, begun.roots, &low, &high);
     } else {
         print_refusal(Refusal::NoReading);

@@ -18,22 +18,6 @@ begin-requires : tie.Need-begin-requires
 begin-requires c κs =
     let s = c .before .before .before .before .before .before .pre in (s, parents-table s .few, (refl, refl))
 
-slice-aggregate-count : tie.Need-slice-aggregate-count
-slice-aggregate-count c = search needs
-
-slice-aggregate-count-2 : tie.Need-slice-aggregate-count-2
-slice-aggregate-count-2 c = search needs
-
-slice-aggregate-count-3 : tie.Need-slice-aggregate-count-3
-slice-aggregate-count-3 c = search needs
-
-count-requires : tie.Need-count-requires
-count-requires c κs =
-    c .before .before .before .before .before .before .before .begin .ensures (c .before .before .before .before .before .before .before .before .before .before .before .before .before .before .pre) .solved (c .before .before .before .if1 .taken) .sheet
-
-print-count-requires : tie.Need-print-count-requires
-print-count-requires c κs = search needs
-
 slice-aggregate-print-readings : tie.Need-slice-aggregate-print-readings
 slice-aggregate-print-readings c = search needs
 
@@ -45,7 +29,9 @@ slice-aggregate-print-readings-3 c = search needs
 
 print-readings-requires : tie.Need-print-readings-requires
 print-readings-requires c κs =
-    c .before .before .before .before .before .before .before .before .before .before .before .before .begin .ensures (c .before .before .before .before .before .before .before .before .before .before .before .before .before .before .before .before .before .before .before .pre) .solved (c .before .before .before .before .before .before .before .before .if1 .taken) .sheet
+    let t = c .before .before .before in
+    let b = t .before .before .before .before in
+    b .begin .ensures (b .before .before .before .before .before .before .before .pre) .solved (t .if1 .taken) .sheet
 
 print-refusal-requires : tie.Need-print-refusal-requires
 print-refusal-requires c κs = search needs
@@ -64,11 +50,6 @@ print-list-spec =
     slice-aggregate-begin-2
     slice-aggregate-begin-3
     begin-requires
-    slice-aggregate-count
-    slice-aggregate-count-2
-    slice-aggregate-count-3
-    count-requires
-    print-count-requires
     slice-aggregate-print-readings
     slice-aggregate-print-readings-2
     slice-aggregate-print-readings-3

@@ -3,7 +3,7 @@ use Prim.Native.Nat.{ℕ, _-_, _<_}
 use mathlib.Core.Path.{_≡_, refl, sym}
 use mathlib.Core.Bool.{Bool, true, false, cond}
 use native.Mathlib.Omega.{arith}
-use lib.ListN.{length}
+use lib.ListN.{length, length-replicate}
 use lib.Seq.{length-take-le}
 use borrow.Author.Needs.{needs}
 use Rattle.graph.specs.Order.{limit}
@@ -22,7 +22,7 @@ abbrev Inv-loop : tie.InvT-loop
 Inv-loop parent owner n leaves roots base-low base-high low₀ high₀ uppers₀ lowers₀ depth₀ out₀ passed₀ more₀ low high uppers lowers depth out passed more =
     ((length low ≡ 128) × (length high ≡ 128))
     × ((length uppers ≡ 16384) × (length lowers ≡ 16384))
-    × (length out ≡ 32768)
+    × (length out ≡ 262144)
     × (more ≡ true → (passed < limit) × ((s : Sheet n parent owner leaves roots base-low base-high) → Stands (s .graph) uppers lowers low high depth passed))
 
 abbrev μ-loop : tie.MeasureT-loop
@@ -46,7 +46,7 @@ first-requires c κs =
 
 loop-holds : tie.Need-loop-holds Inv-loop μ-loop
 loop-holds c =
-    ((search needs, search needs), (search needs, search needs), refl, λ e. (omega arith, c .before .before .before .before .first .ensures))
+    ((search needs, search needs), (search needs, search needs), length-replicate {0} {A = ℕ} 262144 0, λ e. (omega arith, c .before .before .before .before .first .ensures))
 
 slice-aggregate-fill : tie.Need-slice-aggregate-fill Inv-loop μ-loop
 slice-aggregate-fill c = search needs
@@ -69,9 +69,15 @@ fill-requires c κs =
     let p = c .before .before .before .before .before .before .before .before .before .before .before .before .before .before .before .before .before .before .before .before .pre in
     (p, (((l .inv .0 .0, l .inv .0 .1), (omega (arith, room p, l .inv .1 .0), omega (arith, room p, l .inv .1 .1)), l .inv .3 (c .before .before .before .before .before .loop-test .taken) .0, omega (arith, l .inv .2)), l .inv .3 (c .before .before .before .before .before .loop-test .taken) .1))
 
+print-total-requires : tie.Need-print-total-requires Inv-loop μ-loop
+print-total-requires c κs =
+    let f = c .before .before .before .before .before in
+    let p = f .before .before .before .before .before .before .before .before .before .before .before .before .before .before .before .before .before .before .before .before .before .pre in
+    (p, λ s. f .fill .ensures .1 s .ended)
+
 array-share-prefix-out : tie.Need-array-share-prefix-out Inv-loop μ-loop
 array-share-prefix-out c =
-    c .before .before .before .before .before .fill .ensures .0 .0
+    c .before .before .before .before .before .before .fill .ensures .0 .0
 
 slice-aggregate-write-all : tie.Need-slice-aggregate-write-all Inv-loop μ-loop
 slice-aggregate-write-all c =
@@ -82,12 +88,15 @@ write-all-requires c κs = search needs
 
 loop-less : tie.Need-loop-less Inv-loop μ-loop
 loop-less c =
-    let l = c .before .before .before .before .before .before .before .before .before .before .before .before .before .before .loop in
-    fewer-left (l .more) (c .before .before .before .before .before .before .before .fill .result .more) (l .passed) (c .before .before .before .before .before .before .before .fill .result .last) (c .before .before .before .before .before .before .before .before .before .before .before .before .before .loop-test .taken) (l .inv .3 (c .before .before .before .before .before .before .before .before .before .before .before .before .before .loop-test .taken) .0) (c .before .before .before .before .before .before .before .fill .ensures .0 .1) (c .before .before .before .before .before .before .before .fill .ensures .0 .2)
+    let f = c .before .before .before .before .before .before .before .before in
+    let t = f .before .before .before .before .before .before in
+    let l = t .before .loop in
+    fewer-left (l .more) (f .fill .result .more) (l .passed) (f .fill .result .last) (t .loop-test .taken) (l .inv .3 (t .loop-test .taken) .0) (f .fill .ensures .0 .1) (f .fill .ensures .0 .2)
 
 loop-again : tie.Need-loop-again Inv-loop μ-loop
 loop-again c =
-    ((search needs, search needs), (search needs, search needs), search needs, λ e. (c .before .before .before .before .before .before .before .fill .ensures .0 .2 e, λ s. c .before .before .before .before .before .before .before .fill .ensures .1 s .next e))
+    let f = c .before .before .before .before .before .before .before .before .fill in
+    ((search needs, search needs), (search needs, search needs), search needs, λ e. (f .ensures .0 .2 e, λ s. f .ensures .1 s .next e))
 
 returns : tie.Need-returns Inv-loop μ-loop
 returns c = search needs
@@ -110,6 +119,7 @@ print-readings-spec =
     slice-aggregate-fill-4
     slice-aggregate-fill-5
     fill-requires
+    print-total-requires
     array-share-prefix-out
     slice-aggregate-write-all
     write-all-requires
