@@ -31,12 +31,30 @@ fn nodes(sheet: &[u8]) -> usize {
     usize::from(form::commands(sheet).nodes).min(NODES)
 }
 
-/// " root:leaf" for each hung root.
-fn hung(placing: &[u8]) -> String {
-    let mut text = String::new();
-    for (root, leaf) in placing.iter().enumerate().filter(|(_, &leaf)| leaf != TOP) {
-        let _ = write!(text, " {root}:{leaf}");
+/// Numbers up to 255 in figures: a long list writes millions of them.
+struct Figures(Vec<String>);
+
+impl Figures {
+    fn new() -> Figures {
+        Figures((0..=255).map(|number: u8| number.to_string()).collect())
     }
+
+    /// A line with " root:leaf" for each hung root.
+    fn line(&self, text: &mut Vec<u8>, head: &str, placing: &[u8]) {
+        text.extend_from_slice(head.as_bytes());
+        for (root, &leaf) in placing.iter().enumerate().filter(|(_, &leaf)| leaf != TOP) {
+            text.push(b' ');
+            text.extend_from_slice(self.0[root].as_bytes());
+            text.push(b':');
+            text.extend_from_slice(self.0[usize::from(leaf)].as_bytes());
+        }
+        text.push(b'\n');
+    }
+}
+
+fn line(head: &str, placing: &[u8]) -> Vec<u8> {
+    let mut text = Vec::new();
+    Figures::new().line(&mut text, head, placing);
     text
 }
 
@@ -67,11 +85,13 @@ pub fn list(sheet: &[u8]) -> Answer {
     let n = nodes(sheet);
     let mut out = vec![0; n * LAST as usize];
     let listed = Place::start().fill(sheet, &mut out).map_err(|why| Failure::from(why.refusal()))? as u64;
-    let mut text = count_line(if listed < LAST { Count::Exactly(listed) } else { bixtogan::count(sheet)? });
+    let count = if listed < LAST { Count::Exactly(listed) } else { bixtogan::count(sheet)? };
+    let mut text = count_line(count).into_bytes();
+    let figures = Figures::new();
     for (k, placing) in (1..=listed).zip(out.chunks_exact(n)) {
-        let _ = writeln!(text, "{k}{}", hung(placing));
+        figures.line(&mut text, &k.to_string(), placing);
     }
-    Ok(text.into_bytes())
+    Ok(text)
 }
 
 /// The placing of reading k; number 0 is refused as the drawing refuses it.
@@ -84,13 +104,13 @@ fn placing_of(sheet: &[u8], k: u64) -> Result<Vec<u8>, Failure> {
 }
 
 pub fn reading(sheet: &[u8], k: u64) -> Answer {
-    Ok(format!("{k}{}\n", hung(&placing_of(sheet, k)?)).into_bytes())
+    Ok(line(&k.to_string(), &placing_of(sheet, k)?))
 }
 
 pub fn configuration(sheet: &[u8]) -> Answer {
     let mut out = vec![0; 2 * NODES];
     bixtogan::configuration(sheet, &mut out).map_err(|why| unplaced(why, &out))?;
-    Ok(format!("configuration{}\n", hung(&out[..nodes(sheet)])).into_bytes())
+    Ok(line("configuration", &out[..nodes(sheet)]))
 }
 
 pub fn draw(sheet: &[u8], k: u64) -> Answer {
