@@ -87,15 +87,15 @@ fn readings(text: &str) -> BTreeSet<&str> {
     text.lines().skip(1).map(|line| line.split_once(' ').map_or("", |(_, hung)| hung)).collect()
 }
 
-/// The recursions list in our order, byte for byte; free fragments list in another, but the same readings.
-pub fn compare(ours: &[u8], recursions: [&[u8]; 2], free: &[u8]) -> Result<(), String> {
-    if recursions.iter().any(|&recursion| recursion != ours) {
-        return Err("a recursion lists otherwise".to_string());
+/// The recursions and `readings` list in our order, byte for byte; free fragments list in another, but the same readings.
+pub fn compare(ours: &[u8], same: [&[u8]; 3], free: &[u8]) -> Result<(), String> {
+    if same.iter().any(|&text| text != ours) {
+        return Err("a recursion or `readings` lists otherwise".to_string());
     }
-    let same = count(ours) == count(free);
+    let alike = count(ours) == count(free);
     let whole = !count(ours).starts_with("more");
     let (ours, free) = (String::from_utf8_lossy(ours), String::from_utf8_lossy(free));
-    if !same || whole && readings(&ours) != readings(&free) {
+    if !alike || whole && readings(&ours) != readings(&free) {
         return Err("free fragments list otherwise".to_string());
     }
     Ok(())

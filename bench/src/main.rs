@@ -15,7 +15,7 @@ mod table;
 
 use cases::Case;
 use lines::Lines;
-use measure::Program;
+use measure::{Program, PROGRAMS};
 use sheet::Sheet;
 use std::io::{Read, Write};
 use std::process::ExitCode;
@@ -24,7 +24,7 @@ use table::{microseconds, milliseconds, WAYS};
 const USAGE: &str = "\
 usage: bench [--repeat N] [--readings PATH] [--instructions] [--family WORD]
   --repeat N       runs of which the median is taken (default 15)
-  --readings PATH  our program (default target/bin/readings)
+  --readings PATH  our program `readings` (default target/bin/readings)
   --instructions   instructions executed by the programs, by callgrind, in place of times
   --family WORD    only the cases whose name begins with it: chain, random, refused, halves
        bench list recursion|reduced|free < SHEET
@@ -79,17 +79,20 @@ fn list(way: &str) -> Option<()> {
 /// The programs on one case: what line 1 says, and what each of them takes.
 fn programs(
     options: &Options,
-    programs: &[Program; WAYS],
+    programs: &[Program; PROGRAMS],
     case: &Case,
-) -> Result<(String, [Option<f64>; WAYS]), String> {
-    let [ours, recursion, reduced, free] = programs.each_ref().map(|program| program.output(&case.sheet));
-    lines::compare(&ours, [&recursion, &reduced], &free).map_err(|why| format!("{}: {why}", case.name))?;
+) -> Result<(String, [Option<f64>; PROGRAMS]), String> {
+    let [ours, recursion, reduced, free, readings] = programs.each_ref().map(|program| program.output(&case.sheet));
+    lines::compare(&ours, [&recursion, &reduced, &readings], &free).map_err(|why| format!("{}: {why}", case.name))?;
     let run = |program: usize| programs[program].output(&case.sheet);
     let amounts = if options.instructions {
         let millions = |instructions: u64| instructions as f64 / 1e6;
         programs.each_ref().map(|program| instructions::of(program, &case.sheet).map(millions))
     } else {
-        milliseconds(measure::medians(options.repeat, [&mut || run(0), &mut || run(1), &mut || run(2), &mut || run(3)]))
+        milliseconds(measure::medians(
+            options.repeat,
+            [&mut || run(0), &mut || run(1), &mut || run(2), &mut || run(3), &mut || run(4)],
+        ))
     };
     Ok((lines::count(&ours), amounts))
 }
@@ -98,7 +101,7 @@ fn tables(options: &Options) -> Result<(), String> {
     let cases: Vec<Case> = cases::all().into_iter().filter(|case| case.name.starts_with(&options.family)).collect();
     let ways = Program::all(&options.readings)?;
     let unit = if options.instructions { "millions of instructions" } else { "milliseconds" };
-    table::heading("The list as text, a process each", unit);
+    table::heading("The list as text, a process each", unit, PROGRAMS);
     for case in &cases {
         let (readings, amounts) = programs(options, &ways, case)?;
         table::row(&case.name, &readings, amounts);
@@ -109,7 +112,7 @@ fn tables(options: &Options) -> Result<(), String> {
     let readings: Vec<String> =
         cases.iter().map(|case| Ok(calls::agree(case)?.to_string())).collect::<Result<_, String>>()?;
     println!();
-    table::heading("The list as placings, a call each", "microseconds");
+    table::heading("The list as placings, a call each", "microseconds", WAYS);
     for (case, readings) in cases.iter().zip(&readings) {
         table::row(&case.name, readings, microseconds(calls::lists(case, options.repeat)?));
     }
@@ -117,6 +120,7 @@ fn tables(options: &Options) -> Result<(), String> {
     table::heading(
         "The count, a call each (the chart multiplies, the others walk through all readings)",
         "microseconds",
+        WAYS,
     );
     for (case, readings) in cases.iter().zip(&readings) {
         table::row(&case.name, readings, microseconds(calls::counts(case, options.repeat)));

@@ -6,6 +6,9 @@ use std::path::{Path, PathBuf};
 use std::process::{Command, Stdio};
 use std::time::{Duration, Instant};
 
+/// The programs that are compared.
+pub const PROGRAMS: usize = WAYS + 1;
+
 /// A program that takes a sheet on standard input and prints its list.
 pub struct Program {
     pub path: PathBuf,
@@ -13,14 +16,26 @@ pub struct Program {
 }
 
 impl Program {
-    pub fn all(readings: &str) -> Result<[Program; WAYS], String> {
-        if !Path::new(readings).exists() {
-            return Err(format!("{readings} is not there: `rt check readings` makes it"));
-        }
+    /// `bixtogan list`, which is built beside this program; the other ways; `readings`.
+    pub fn all(readings: &str) -> Result<[Program; PROGRAMS], String> {
         let this = std::env::current_exe().map_err(|why| why.to_string())?;
-        let way = |way: &str| Program { path: this.clone(), arguments: vec!["list".to_string(), way.to_string()] };
-        let ours = Program { path: PathBuf::from(readings), arguments: Vec::new() };
-        Ok([ours, way("recursion"), way("reduced"), way("free")])
+        let ours = this.with_file_name("bixtogan");
+        for (path, make) in [(Path::new(readings), "rt check readings"), (&ours, "cargo build --release")] {
+            if !path.exists() {
+                return Err(format!("{} is not there: `{make}` makes it", path.display()));
+            }
+        }
+        let program = |path: &Path, words: &[&str]| Program {
+            path: path.to_path_buf(),
+            arguments: words.iter().map(|word| word.to_string()).collect(),
+        };
+        Ok([
+            program(&ours, &["list"]),
+            program(&this, &["list", "recursion"]),
+            program(&this, &["list", "reduced"]),
+            program(&this, &["list", "free"]),
+            program(Path::new(readings), &[]),
+        ])
     }
 
     pub fn command(&self) -> Command {

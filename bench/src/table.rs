@@ -4,11 +4,14 @@ use std::time::Duration;
 /// Ours, the recursion, the recursion on a reduced graph, free fragments.
 pub const WAYS: usize = 4;
 
-/// What is compared, and in which unit.
-pub fn heading(what: &str, unit: &str) {
+const NAMES: [&str; WAYS + 1] = ["ours", "recursion", "reduced", "free fragments", "our `readings`"];
+
+/// What is compared, and in which unit. The program `readings` comes after the others where it is compared as well.
+pub fn heading(what: &str, unit: &str, ways: usize) {
     println!("{what}, {unit}. A ratio above 1 is in our favour.\n");
-    println!("| sheet | readings | ours | recursion | reduced | free fragments | recursion / ours | reduced / ours | free / ours |");
-    println!("|---|---:|---:|---:|---:|---:|---:|---:|---:|");
+    let ratios: Vec<String> = NAMES[1..ways].iter().map(|name| format!("{name} / ours")).collect();
+    println!("| sheet | readings | {} | {} |", NAMES[..ways].join(" | "), ratios.join(" | "));
+    println!("|---|{}", "---:|".repeat(2 * ways));
 }
 
 fn cell(amount: Option<f64>) -> String {
@@ -19,16 +22,16 @@ fn cell(amount: Option<f64>) -> String {
     }
 }
 
-pub fn row(name: &str, readings: &str, amounts: [Option<f64>; WAYS]) {
+pub fn row<const N: usize>(name: &str, readings: &str, amounts: [Option<f64>; N]) {
     let ratio = |other: &Option<f64>| cell(other.zip(amounts[0]).map(|(other, ours)| other / ours));
     let ratios: Vec<String> = amounts[1..].iter().map(ratio).collect();
     println!("| {name} | {readings} | {} | {} |", amounts.map(cell).join(" | "), ratios.join(" | "));
 }
 
-pub fn milliseconds(times: [Duration; WAYS]) -> [Option<f64>; WAYS] {
+pub fn milliseconds<const N: usize>(times: [Duration; N]) -> [Option<f64>; N] {
     times.map(|time| Some(time.as_secs_f64() * 1e3))
 }
 
-pub fn microseconds(times: [Duration; WAYS]) -> [Option<f64>; WAYS] {
+pub fn microseconds<const N: usize>(times: [Duration; N]) -> [Option<f64>; N] {
     times.map(|time| Some(time.as_secs_f64() * 1e6))
 }
