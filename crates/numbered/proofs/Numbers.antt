@@ -6,6 +6,7 @@ use mathlib.Core.Bool.{true, false, true≢false}
 use native.Mathlib.Nat.{mul-le-mul}
 use native.Mathlib.Omega.{arith}
 use lib.ListN.{length, take, drop, take-append-drop}
+use denote.Enum.Declared.{tagOf}
 use borrow.Author.Tests.{le-leb, lt-leb}
 use Rattle.nodeset.specs.Set.{mem}
 use Rattle.nodeset.specs.declared.NodeSet.{NodeSet}
@@ -27,6 +28,19 @@ use Rattle.walk.proofs.Walks.{stands-entry}
 use Rattle.numbered.specs.Numbered.{Reaches, Finds}
 use Rattle.numbered.specs.declared.Reached.{Reached}
 use Rattle.numbered.specs.declared.Reached.the-variants.{At, Only}
+use Rattle.numbered.proofs.Reached.{the-type}
+
+-- where the walk has led
+led : Reached → ℕ
+led (At depth) = depth
+led (Only all) = 0
+
+pub same-reach : {at depth : ℕ} → At at ≡ At depth → at ≡ depth
+unfolding led
+same-reach e = ap led e
+
+pub only-not-at : {all depth : ℕ} → Only all ≡ At depth → ⊥
+only-not-at e = let z : _≡_ {A = ℕ} 1 0 = ap (tagOf the-type) e in omega arith
 
 -- the count, by the walk to one more than the last number
 module _ (g : Graph) (uppers lowers low high : List ℕ) where

@@ -2,6 +2,7 @@
 use fork::settle::settle;
 use graph::Count;
 use nodeset::NodeSet;
+use walk::levels::WORDS;
 use walk::steps::Moved;
 use walk::steps::first;
 use walk::steps::next;
@@ -13,7 +14,8 @@ ghost use Rattle.listing.proofs.Readings.{listed};
 ghost use Rattle.rows.specs.Rows.{Long};
 ghost use Rattle.walk.specs.Decisions.{Room};
 ghost use Rattle.walk.specs.Given.{Sheet};
-ghost use Rattle.numbered.specs.Numbered.{Reaches, Finds};
+ghost use Rattle.walk.specs.Levels.{Levels};
+ghost use Rattle.numbered.specs.Numbered.{Reaches, SavedAt, Finds};
 
 // The last number that a reading is asked for by.
 pub const LAST: usize = 65535;
@@ -38,15 +40,18 @@ pub fn reach(
     base_high: &[u64],
     low: &mut [u64],
     high: &mut [u64],
+    saved_low: &mut [u64],
+    saved_high: &mut [u64],
     uppers: &mut [u8],
     lowers: &mut [u8],
     k: usize,
 ) -> Reached
     requires { ⌜ Sheet n (now parent) (now owner) leaves roots (now «base_low») (now «base_high») ⌝ }
-    requires { ⌜ Long (now low) (now high) × Room n (now uppers) (now lowers) × (1 ≤ k) ⌝ }
+    requires { ⌜ Long (now low) (now high) × Room n (now uppers) (now lowers) × (1 ≤ k) × Levels (now «saved_low») (now «saved_high») ⌝ }
     ensures { λ r. ⌜
         ((s : Sheet n (now (parent .entry)) (now (owner .entry)) leaves roots (now («base_low» .entry)) (now («base_high» .entry))) →
-        Reaches (s .graph) (now (uppers .exit)) (now (lowers .exit)) (now (low .exit)) (now (high .exit)) k r)
+        Reaches (s .graph) (now (uppers .exit)) (now (lowers .exit)) (now (low .exit)) (now (high .exit)) k r
+        × SavedAt (s .graph) (now (uppers .exit)) (now (lowers .exit)) (now («saved_low» .exit)) (now («saved_high» .exit)) r)
         ⌝ }
 {
     let mut depth = first(
@@ -59,6 +64,8 @@ pub fn reach(
         base_high,
         low,
         high,
+        saved_low,
+        saved_high,
         uppers,
         lowers,
     );
@@ -75,6 +82,8 @@ pub fn reach(
             base_high,
             low,
             high,
+            saved_low,
+            saved_high,
             uppers,
             lowers,
             depth,
@@ -105,6 +114,8 @@ pub fn count(
 {
     let mut low = [0u64; 128];
     let mut high = [0u64; 128];
+    let mut saved_low = [0u64; WORDS];
+    let mut saved_high = [0u64; WORDS];
     let mut uppers = [0u8; PAIRS];
     let mut lowers = [0u8; PAIRS];
     let Reached::Only(all) = reach(
@@ -117,6 +128,8 @@ pub fn count(
         base_high,
         &mut low,
         &mut high,
+        &mut saved_low,
+        &mut saved_high,
         &mut uppers,
         &mut lowers,
         LAST + 1,
@@ -146,6 +159,8 @@ pub fn find(
 {
     let mut low = [0u64; 128];
     let mut high = [0u64; 128];
+    let mut saved_low = [0u64; WORDS];
+    let mut saved_high = [0u64; WORDS];
     let mut uppers = [0u8; PAIRS];
     let mut lowers = [0u8; PAIRS];
     match reach(
@@ -158,6 +173,8 @@ pub fn find(
         base_high,
         &mut low,
         &mut high,
+        &mut saved_low,
+        &mut saved_high,
         &mut uppers,
         &mut lowers,
         k,

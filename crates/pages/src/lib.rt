@@ -22,6 +22,7 @@ ghost use Rattle.rows.specs.Rows.{Long};
 ghost use Rattle.fork.specs.Given.{Given};
 ghost use Rattle.walk.specs.Decisions.{Room};
 ghost use Rattle.walk.specs.Given.{Sheet};
+ghost use Rattle.walk.specs.Levels.{Saved};
 ghost use Rattle.walk.specs.States.{Stands};
 ghost use Rattle.pages.specs.Pages.{PageOf};
 
@@ -67,6 +68,8 @@ pub fn fill(
     base_high: &[u64],
     low: &mut [u64],
     high: &mut [u64],
+    saved_low: &mut [u64],
+    saved_high: &mut [u64],
     uppers: &mut [u8],
     lowers: &mut [u8],
     depth: usize,
@@ -77,12 +80,15 @@ pub fn fill(
     requires { ⌜ Long (now low) (now high) × Room n (now uppers) (now lowers) × (passed < limit) × (1100 ≤ length (now out)) ⌝ }
     requires { ⌜
         ((s : Sheet n (now parent) (now owner) leaves roots (now «base_low») (now «base_high»)) →
-        Stands (s .graph) (now uppers) (now lowers) (now low) (now high) depth passed)
+        Stands (s .graph) (now uppers) (now lowers) (now low) (now high) depth passed
+        × Saved (s .graph) (now uppers) (now lowers) (now «saved_low») (now «saved_high») depth)
         ⌝ }
     ensures { λ r. ⌜ (r .bytes ≤ length (now (out .exit))) × (passed < r .last) × (r .more ≡ true → r .last < limit) ⌝ }
     ensures { λ r. ⌜
         ((s : Sheet n (now (parent .entry)) (now (owner .entry)) leaves roots (now («base_low» .entry)) (now («base_high» .entry))) →
-        PageOf (s .graph) (now (uppers .exit)) (now (lowers .exit)) (now (low .exit)) (now (high .exit)) passed (now (out .exit)) r)
+        PageOf (s .graph) (now (uppers .exit)) (now (lowers .exit)) (now (low .exit)) (now (high .exit)) passed (now (out .exit)) r
+        × (r .more ≡ true →
+        Saved (s .graph) (now (uppers .exit)) (now (lowers .exit)) (now («saved_low» .exit)) (now («saved_high» .exit)) (r .depth)))
         ⌝ }
 {
     let mut at = depth;
@@ -109,6 +115,8 @@ pub fn fill(
             base_high,
             low,
             high,
+            saved_low,
+            saved_high,
             uppers,
             lowers,
             at,

@@ -12,6 +12,7 @@ use sheet::read::read;
 use start::begin;
 use text::count_line;
 use text::refused_line;
+use walk::levels::WORDS;
 use walk::steps::first;
 ghost use mathlib.Core.Path.{_≡_};
 ghost use mathlib.Core.Bool.{false};
@@ -116,6 +117,8 @@ fn print_readings(
 {
     let mut low = [0u64; 128];
     let mut high = [0u64; 128];
+    let mut saved_low = [0u64; WORDS];
+    let mut saved_high = [0u64; WORDS];
     let mut uppers = [0u8; PAIRS];
     let mut lowers = [0u8; PAIRS];
     let mut depth = first(
@@ -128,6 +131,8 @@ fn print_readings(
         base_high,
         &mut low,
         &mut high,
+        &mut saved_low,
+        &mut saved_high,
         &mut uppers,
         &mut lowers,
     );
@@ -145,6 +150,8 @@ fn print_readings(
             base_high,
             &mut low,
             &mut high,
+            &mut saved_low,
+            &mut saved_high,
             &mut uppers,
             &mut lowers,
             depth,

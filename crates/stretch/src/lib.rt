@@ -5,6 +5,7 @@ use numbered::LAST;
 use numbered::PAIRS;
 use numbered::Reached;
 use numbered::reach;
+use walk::levels::WORDS;
 use walk::steps::Moved;
 use walk::steps::next;
 ghost use mathlib.Core.Path.{_≡_};
@@ -21,6 +22,7 @@ ghost use Rattle.rows.specs.Rows.{Long};
 ghost use Rattle.fork.specs.Given.{Given};
 ghost use Rattle.walk.specs.Decisions.{Room};
 ghost use Rattle.walk.specs.Given.{Sheet};
+ghost use Rattle.walk.specs.Levels.{Saved};
 ghost use Rattle.walk.specs.States.{Stands};
 ghost use Rattle.stretch.specs.Stretch.{Filled, StretchOf};
 
@@ -56,6 +58,8 @@ fn fill(
     base_high: &[u64],
     low: &mut [u64],
     high: &mut [u64],
+    saved_low: &mut [u64],
+    saved_high: &mut [u64],
     uppers: &mut [u8],
     lowers: &mut [u8],
     depth: usize,
@@ -66,7 +70,8 @@ fn fill(
     requires { ⌜ Long (now low) (now high) × Room n (now uppers) (now lowers) × (passed < limit) × (n ≤ length (now out)) ⌝ }
     requires { ⌜
         ((s : Sheet n (now parent) (now owner) leaves roots (now «base_low») (now «base_high»)) →
-        Stands (s .graph) (now uppers) (now lowers) (now low) (now high) depth passed)
+        Stands (s .graph) (now uppers) (now lowers) (now low) (now high) depth passed
+        × Saved (s .graph) (now uppers) (now lowers) (now «saved_low») (now «saved_high») depth)
         ⌝ }
     ensures { λ r. ⌜
         ((s : Sheet n (now (parent .entry)) (now (owner .entry)) leaves roots (now («base_low» .entry)) (now («base_high» .entry))) →
@@ -96,6 +101,8 @@ fn fill(
             base_high,
             low,
             high,
+            saved_low,
+            saved_high,
             uppers,
             lowers,
             at,
@@ -129,6 +136,8 @@ pub fn stretch(
     }
     let mut low = [0u64; 128];
     let mut high = [0u64; 128];
+    let mut saved_low = [0u64; WORDS];
+    let mut saved_high = [0u64; WORDS];
     let mut uppers = [0u8; PAIRS];
     let mut lowers = [0u8; PAIRS];
     match reach(
@@ -141,6 +150,8 @@ pub fn stretch(
         base_high,
         &mut low,
         &mut high,
+        &mut saved_low,
+        &mut saved_high,
         &mut uppers,
         &mut lowers,
         passed + 1,
@@ -156,6 +167,8 @@ pub fn stretch(
             base_high,
             &mut low,
             &mut high,
+            &mut saved_low,
+            &mut saved_high,
             &mut uppers,
             &mut lowers,
             depth,

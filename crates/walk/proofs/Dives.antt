@@ -56,9 +56,12 @@ led : Dived → ℕ
 led (To depth) = depth
 led Stuck = 0
 
-pub reached-there : {g : Graph} {uppers lowers low high : List ℕ} {at depth k : ℕ} → To at ≡ To depth → Stands g uppers lowers low high at k → Stands g uppers lowers low high depth k
+pub same-depth : {at depth : ℕ} → To at ≡ To depth → at ≡ depth
 unfolding led
-reached-there {g} {uppers} {lowers} {low} {high} {at} {depth} {k} e x = let same : at ≡ depth = ap led e in subst (λ (d : ℕ). Stands g uppers lowers low high d k) same x
+same-depth e = ap led e
+
+pub reached-there : {g : Graph} {uppers lowers low high : List ℕ} {at depth k : ℕ} → To at ≡ To depth → Stands g uppers lowers low high at k → Stands g uppers lowers low high depth k
+reached-there {g} {uppers} {lowers} {low} {high} {k = k} e x = subst (λ (d : ℕ). Stands g uppers lowers low high d k) (same-depth e) x
 
 module _ {g : Graph} {n : ℕ} {owners : List ℕ} {leaves roots : NodeSet} {uppers lowers low high : List ℕ} {depth k : ℕ} (o : Owned g n owners) (e : Ends g n leaves roots)
     (d : Diving g uppers lowers low high depth k) where

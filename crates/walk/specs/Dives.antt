@@ -7,11 +7,17 @@ use Rattle.graph.specs.Graph.{Graph}
 use Rattle.walk.specs.declared.dive.Dived.{Dived}
 use Rattle.walk.specs.declared.dive.Dived.the-variants.{To, Stuck}
 use Rattle.walk.specs.Decisions.{Kept}
+use Rattle.walk.specs.Levels.{Saved}
 use Rattle.walk.specs.States.{Stands}
 
 -- to a reading, if to anything
 abbrev pub Reaches : Graph → List ℕ → List ℕ → List ℕ → List ℕ → ℕ → Dived → Type 0
 Reaches g uppers lowers low high k r = (depth : ℕ) → r ≡ To depth → Stands g uppers lowers low high depth k
+
+-- the levels before it are saved, and in any case those before the outset
+abbrev pub SavedTo : Graph → List ℕ → List ℕ → List ℕ → List ℕ → ℕ → Dived → Type 0
+SavedTo g uppers lowers saved-low saved-high outset r =
+    Saved g uppers lowers saved-low saved-high outset × ((depth : ℕ) → r ≡ To depth → Saved g uppers lowers saved-low saved-high depth)
 
 -- or the decisions stay
 abbrev pub Unchanged : ℕ → List ℕ → List ℕ → List ℕ → List ℕ → Dived → Type 0

@@ -7,6 +7,7 @@ use Rattle.graph.specs.Graph.{Graph}
 use Rattle.listing.proofs.Readings.{listed}
 use Rattle.walk.specs.declared.steps.Moved.{Moved}
 use Rattle.walk.specs.declared.steps.Moved.the-variants.{To, End}
+use Rattle.walk.specs.Levels.{Saved}
 use Rattle.walk.specs.States.{Enters, Stands}
 
 -- out of the half that the walk was in
@@ -18,3 +19,7 @@ Left g uppers lowers low high k End = length (listed g) ≡ k
 abbrev pub Moves : Graph → List ℕ → List ℕ → List ℕ → List ℕ → ℕ → Moved → Type 0
 Moves g uppers lowers low high k (To depth) = Stands g uppers lowers low high depth k
 Moves g uppers lowers low high k End = length (listed g) ≡ k
+
+-- the levels before it are saved
+abbrev pub SavedAt : Graph → List ℕ → List ℕ → List ℕ → List ℕ → Moved → Type 0
+SavedAt g uppers lowers saved-low saved-high r = (depth : ℕ) → r ≡ To depth → Saved g uppers lowers saved-low saved-high depth

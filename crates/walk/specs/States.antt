@@ -14,6 +14,7 @@ use Rattle.fork.specs.Given.{Ends}
 use Rattle.walking.specs.Walk.{first, second, half, graphAt, Entering, At, Leaving}
 use Rattle.walk.specs.Decisions.{decisions}
 use Rattle.walk.specs.Given.{Fits, Sheet}
+use Rattle.walk.specs.Levels.{Saved}
 
 -- k readings are passed, and those of the graph at the decisions come next
 pub record Enters (g : Graph) (uppers lowers low high : List ℕ) (depth k : ℕ) : Type 0 where
@@ -48,10 +49,11 @@ pub record Standing (n : ℕ) (parents owners : List ℕ) (leaves roots : NodeSe
   pub stands : Stands (sheet .graph) uppers lowers low high depth passed
 
 -- the walk of some sheet leaves the half that it was in
-pub record Departing (n : ℕ) (parents owners : List ℕ) (leaves roots : NodeSet) (base-low base-high uppers lowers : List ℕ) (depth : ℕ) : Type 0 where
+pub record Departing (n : ℕ) (parents owners : List ℕ) (leaves roots : NodeSet) (base-low base-high uppers lowers saved-low saved-high : List ℕ) (depth : ℕ) : Type 0 where
   pub sheet : Sheet n parents owners leaves roots base-low base-high
   pub passed : ℕ
   pub leaving : Leaving (sheet .graph) (decisions uppers lowers depth) passed
+  pub saved : Saved (sheet .graph) uppers lowers saved-low saved-high depth
 
 -- true: the first half has a solved form; false: it has none. The rows are those of the half entered.
 abbrev pub Halved : Graph → ℕ → ℕ → Bool → List ℕ → List ℕ → Type 0

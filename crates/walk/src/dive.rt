@@ -1,5 +1,6 @@
 // The way to the next reading on which no half is tested. Where it comes to a reading, each half on it has that solved form;
 // where it comes to a cycle, nothing is known, and the tested way is left.
+use crate::levels::save;
 use crate::replay::add_half;
 use crate::replay::turn;
 use descent::cyclic;
@@ -15,8 +16,9 @@ ghost use Rattle.fork.specs.Given.{Ends};
 ghost use Rattle.walking.specs.Walk.{Leaving};
 ghost use Rattle.walk.specs.Decisions.{decisions, Within, Kept};
 ghost use Rattle.walk.specs.Given.{Owners, Owned};
+ghost use Rattle.walk.specs.Levels.{Levels, Saved};
 ghost use Rattle.walk.specs.States.{Diving};
-ghost use Rattle.walk.specs.Dives.{Reaches, Unchanged, Back};
+ghost use Rattle.walk.specs.Dives.{Reaches, SavedTo, Unchanged, Back};
 
 pub enum Dived {
     To(usize),
@@ -31,17 +33,21 @@ fn dive(
     roots: NodeSet,
     low: &mut [u64],
     high: &mut [u64],
+    saved_low: &mut [u64],
+    saved_high: &mut [u64],
     uppers: &mut [u8],
     lowers: &mut [u8],
     depth: usize,
 ) -> Dived
-    requires { ⌜ Owners n (now owner) × (n ≤ 128) × Long (now low) (now high) ⌝ }
+    requires { ⌜ Owners n (now owner) × (n ≤ 128) × Long (now low) (now high) × Levels (now «saved_low») (now «saved_high») ⌝ }
     ensures { λ _. ⌜ Long (now (low .exit)) (now (high .exit)) ⌝ }
     ensures { λ _. ⌜ Kept depth (now (uppers .entry)) (now (lowers .entry)) (now (uppers .exit)) (now (lowers .exit)) ⌝ }
     ensures { λ r. ⌜
         ((g : Graph) (k : ℕ) → Owned g n (now (owner .entry)) → Ends g n leaves roots →
         Diving g (now (uppers .entry)) (now (lowers .entry)) (now (low .entry)) (now (high .entry)) depth k →
-        Reaches g (now (uppers .exit)) (now (lowers .exit)) (now (low .exit)) (now (high .exit)) k r)
+        Reaches g (now (uppers .exit)) (now (lowers .exit)) (now (low .exit)) (now (high .exit)) k r
+        × (Saved g (now (uppers .entry)) (now (lowers .entry)) (now («saved_low» .entry)) (now («saved_high» .entry)) depth →
+        SavedTo g (now (uppers .exit)) (now (lowers .exit)) (now («saved_low» .exit)) (now («saved_high» .exit)) depth r))
         ⌝ }
 {
     let mut at = depth;
@@ -58,6 +64,7 @@ fn dive(
         if lowers.len() <= at {
             return Dived::Stuck;
         }
+        save(low, high, saved_low, saved_high, at);
         add_half(owner, n, low, high, a, b);
         uppers[at] = a as u8;
         lowers[at] = b as u8;
@@ -91,11 +98,16 @@ pub fn hop(
     base_high: &[u64],
     low: &mut [u64],
     high: &mut [u64],
+    saved_low: &mut [u64],
+    saved_high: &mut [u64],
     uppers: &mut [u8],
     lowers: &mut [u8],
     last: usize,
 ) -> Dived
-    requires { ⌜ Owners n (now owner) × (n ≤ 128) × Long (now «base_low») (now «base_high») × Long (now low) (now high) ⌝ }
+    requires { ⌜
+        Owners n (now owner) × (n ≤ 128) × Long (now «base_low») (now «base_high») × Long (now low) (now high)
+        × Levels (now «saved_low») (now «saved_high»)
+        ⌝ }
     requires { ⌜ Within n (last + 1) (now uppers) (now lowers) ⌝ }
     ensures { λ _. ⌜ Long (now (low .exit)) (now (high .exit)) ⌝ }
     ensures { λ r. ⌜ Unchanged (last + 1) (now (uppers .entry)) (now (lowers .entry)) (now (uppers .exit)) (now (lowers .exit)) r ⌝ }
@@ -104,7 +116,9 @@ pub fn hop(
         Rows (Descent g) (now («base_low» .entry)) (now («base_high» .entry)) →
         Leaving g (decisions (now (uppers .entry)) (now (lowers .entry)) (last + 1)) k →
         getD (now (uppers .entry)) last 0 < getD (now (lowers .entry)) last 0 →
-        Reaches g (now (uppers .exit)) (now (lowers .exit)) (now (low .exit)) (now (high .exit)) k r)
+        Saved g (now (uppers .entry)) (now (lowers .entry)) (now («saved_low» .entry)) (now («saved_high» .entry)) (last + 1) →
+        Reaches g (now (uppers .exit)) (now (lowers .exit)) (now (low .exit)) (now (high .exit)) k r
+        × SavedTo g (now (uppers .exit)) (now (lowers .exit)) (now («saved_low» .exit)) (now («saved_high» .exit)) (last + 1) r)
         ⌝ }
 {
     turn(
@@ -112,6 +126,8 @@ pub fn hop(
         n,
         base_low,
         base_high,
+        saved_low,
+        saved_high,
         uppers,
         lowers,
         last,
@@ -122,7 +138,19 @@ pub fn hop(
     let b = lowers[last];
     uppers[last] = b;
     lowers[last] = a;
-    let dived = dive(owner, n, leaves, roots, low, high, uppers, lowers, last + 1);
+    let dived = dive(
+        owner,
+        n,
+        leaves,
+        roots,
+        low,
+        high,
+        saved_low,
+        saved_high,
+        uppers,
+        lowers,
+        last + 1,
+    );
     if let Dived::Stuck = dived {
         uppers[last] = a;
         lowers[last] = b;

@@ -10,8 +10,9 @@ ghost use Rattle.graph.specs.Order.{Choice};
 ghost use Rattle.sheet.specs.Judge.{Parents};
 ghost use Rattle.rows.specs.Rows.{Long, Rows};
 ghost use Rattle.walking.specs.Walk.{graphAt, Valid};
-ghost use Rattle.walk.specs.Decisions.{decisions, Within};
+ghost use Rattle.walk.specs.Decisions.{decisions, Within, Kept};
 ghost use Rattle.walk.specs.Given.{Owners, Fits};
+ghost use Rattle.walk.specs.Levels.{Levels, Saved};
 ghost use Rattle.walk.specs.States.{Halved, Turned, Enters};
 
 // The edge from a to b's root, or, if there is no solved form with it, that from b to a's root. True for the first.
@@ -60,6 +61,7 @@ pub fn take_half(
     requires { ⌜ Parents n (now parent) × Owners n (now owner) × Long (now low) (now high) × (a < n) × (b < n) ⌝ }
     requires { ⌜ (depth < length (now uppers)) × (depth < length (now lowers)) ⌝ }
     ensures { λ _. ⌜ Long (now (low .exit)) (now (high .exit)) ⌝ }
+    ensures { λ _. ⌜ Kept depth (now (uppers .entry)) (now (lowers .entry)) (now (uppers .exit)) (now (lowers .exit)) ⌝ }
     ensures { λ _. ⌜
         ((g : Graph) (k v : ℕ) → Fits g n (now (parent .entry)) (now (owner .entry)) →
         Enters g (now (uppers .entry)) (now (lowers .entry)) (now (low .entry)) (now (high .entry)) depth k →
@@ -83,13 +85,18 @@ pub fn other_half(
     n: usize,
     base_low: &[u64],
     base_high: &[u64],
+    saved_low: &[u64],
+    saved_high: &[u64],
     uppers: &[u8],
     lowers: &[u8],
     last: usize,
     low: &mut [u64],
     high: &mut [u64],
 ) -> bool
-    requires { ⌜ Parents n (now parent) × Owners n (now owner) × Long (now «base_low») (now «base_high») × Long (now low) (now high) ⌝ }
+    requires { ⌜
+        Parents n (now parent) × Owners n (now owner) × Long (now «base_low») (now «base_high») × Long (now low) (now high)
+        × Levels (now «saved_low») (now «saved_high»)
+        ⌝ }
     requires { ⌜ Within n (last + 1) (now uppers) (now lowers) ⌝ }
     ensures { λ _. ⌜ Long (now (low .exit)) (now (high .exit)) ⌝ }
     ensures { λ r. ⌜
@@ -97,6 +104,7 @@ pub fn other_half(
         Rows (Descent g) (now («base_low» .entry)) (now («base_high» .entry)) →
         Valid g (decisions (now (uppers .entry)) (now (lowers .entry)) (last + 1)) →
         getD (now (uppers .entry)) last 0 < getD (now (lowers .entry)) last 0 →
+        Saved g (now (uppers .entry)) (now (lowers .entry)) (now («saved_low» .entry)) (now («saved_high» .entry)) (last + 1) →
         Turned (graphAt g (decisions (now (uppers .entry)) (now (lowers .entry)) last))
         (getD (now (uppers .entry)) last 0) (getD (now (lowers .entry)) last 0) r (now (low .exit)) (now (high .exit)))
         ⌝ }
@@ -106,6 +114,8 @@ pub fn other_half(
         n,
         base_low,
         base_high,
+        saved_low,
+        saved_high,
         uppers,
         lowers,
         last,

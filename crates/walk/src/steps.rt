@@ -5,6 +5,7 @@ use crate::dive::back;
 use crate::dive::hop;
 use crate::halves::other_half;
 use crate::halves::take_half;
+use crate::levels::save;
 use fork::choose::Fork;
 use fork::choose::choose;
 use nodeset::NodeSet;
@@ -17,8 +18,9 @@ ghost use Rattle.fork.specs.Given.{Ends};
 ghost use Rattle.walking.specs.Walk.{Leaving};
 ghost use Rattle.walk.specs.Decisions.{decisions, Within, Room};
 ghost use Rattle.walk.specs.Given.{Owners, Fits, Sheet};
+ghost use Rattle.walk.specs.Levels.{Levels, Saved};
 ghost use Rattle.walk.specs.States.{Enters, Stands, Arriving, Standing, Departing};
-ghost use Rattle.walk.specs.Moves.{Left, Moves};
+ghost use Rattle.walk.specs.Moves.{Left, Moves, SavedAt};
 
 pub enum Moved {
     To(usize),
@@ -34,16 +36,20 @@ fn enter(
     roots: NodeSet,
     low: &mut [u64],
     high: &mut [u64],
+    saved_low: &mut [u64],
+    saved_high: &mut [u64],
     uppers: &mut [u8],
     lowers: &mut [u8],
     depth: usize,
 ) -> usize
     requires { ⌜ Arriving n (now parent) (now owner) leaves roots (now uppers) (now lowers) (now low) (now high) depth ⌝ }
-    requires { ⌜ Room n (now uppers) (now lowers) ⌝ }
+    requires { ⌜ Room n (now uppers) (now lowers) × Levels (now «saved_low») (now «saved_high») ⌝ }
     ensures { λ r. ⌜
         ((g : Graph) (k : ℕ) → Fits g n (now (parent .entry)) (now (owner .entry)) → Ends g n leaves roots →
         Enters g (now (uppers .entry)) (now (lowers .entry)) (now (low .entry)) (now (high .entry)) depth k →
-        Stands g (now (uppers .exit)) (now (lowers .exit)) (now (low .exit)) (now (high .exit)) r k)
+        Stands g (now (uppers .exit)) (now (lowers .exit)) (now (low .exit)) (now (high .exit)) r k
+        × (Saved g (now (uppers .entry)) (now (lowers .entry)) (now («saved_low» .entry)) (now («saved_high» .entry)) depth →
+        Saved g (now (uppers .exit)) (now (lowers .exit)) (now («saved_low» .exit)) (now («saved_high» .exit)) r))
         ⌝ }
 {
     let mut at = depth;
@@ -51,6 +57,7 @@ fn enter(
         let Fork::At(v, a, b) = choose(low, high, n, leaves, roots) else {
             return at;
         };
+        save(low, high, saved_low, saved_high, at);
         take_half(parent, owner, n, low, high, uppers, lowers, at, a, b);
         at += 1;
     }
@@ -65,17 +72,24 @@ fn leave(
     base_high: &[u64],
     low: &mut [u64],
     high: &mut [u64],
+    saved_low: &[u64],
+    saved_high: &[u64],
     uppers: &mut [u8],
     lowers: &mut [u8],
     depth: usize,
 ) -> Moved
-    requires { ⌜ Parents n (now parent) × Owners n (now owner) × Long (now «base_low») (now «base_high») × Long (now low) (now high) ⌝ }
+    requires { ⌜
+        Parents n (now parent) × Owners n (now owner) × Long (now «base_low») (now «base_high») × Long (now low) (now high)
+        × Levels (now «saved_low») (now «saved_high»)
+        ⌝ }
     requires { ⌜ Within n depth (now uppers) (now lowers) ⌝ }
     ensures { λ r. ⌜
         ((g : Graph) (k : ℕ) → Fits g n (now (parent .entry)) (now (owner .entry)) →
         Rows (Descent g) (now («base_low» .entry)) (now («base_high» .entry)) →
         Leaving g (decisions (now (uppers .entry)) (now (lowers .entry)) depth) k →
-        Left g (now (uppers .exit)) (now (lowers .exit)) (now (low .exit)) (now (high .exit)) k r)
+        Saved g (now (uppers .entry)) (now (lowers .entry)) (now («saved_low» .entry)) (now («saved_high» .entry)) depth →
+        Left g (now (uppers .exit)) (now (lowers .exit)) (now (low .exit)) (now (high .exit)) k r
+        × SavedAt g (now (uppers .exit)) (now (lowers .exit)) (now («saved_low» .entry)) (now («saved_high» .entry)) r)
         ⌝ }
 {
     let mut at = depth;
@@ -90,6 +104,8 @@ fn leave(
                 n,
                 base_low,
                 base_high,
+                saved_low,
+                saved_high,
                 uppers,
                 lowers,
                 at,
@@ -116,14 +132,17 @@ pub fn first(
     base_high: &[u64],
     low: &mut [u64],
     high: &mut [u64],
+    saved_low: &mut [u64],
+    saved_high: &mut [u64],
     uppers: &mut [u8],
     lowers: &mut [u8],
 ) -> usize
     requires { ⌜ Sheet n (now parent) (now owner) leaves roots (now «base_low») (now «base_high») ⌝ }
-    requires { ⌜ Long (now low) (now high) × Room n (now uppers) (now lowers) ⌝ }
+    requires { ⌜ Long (now low) (now high) × Room n (now uppers) (now lowers) × Levels (now «saved_low») (now «saved_high») ⌝ }
     ensures { λ r. ⌜
         ((s : Sheet n (now (parent .entry)) (now (owner .entry)) leaves roots (now («base_low» .entry)) (now («base_high» .entry))) →
-        Stands (s .graph) (now (uppers .exit)) (now (lowers .exit)) (now (low .exit)) (now (high .exit)) r 0)
+        Stands (s .graph) (now (uppers .exit)) (now (lowers .exit)) (now (low .exit)) (now (high .exit)) r 0
+        × Saved (s .graph) (now (uppers .exit)) (now (lowers .exit)) (now («saved_low» .exit)) (now («saved_high» .exit)) r)
         ⌝ }
 {
     copy_rows(base_low, base_high, low, high);
@@ -135,6 +154,8 @@ pub fn first(
         roots,
         low,
         high,
+        saved_low,
+        saved_high,
         uppers,
         lowers,
         0,
@@ -152,17 +173,24 @@ fn advance(
     base_high: &[u64],
     low: &mut [u64],
     high: &mut [u64],
+    saved_low: &mut [u64],
+    saved_high: &mut [u64],
     uppers: &mut [u8],
     lowers: &mut [u8],
     depth: usize,
 ) -> Moved
-    requires { ⌜ Departing n (now parent) (now owner) leaves roots (now «base_low») (now «base_high») (now uppers) (now lowers) depth ⌝ }
+    requires { ⌜
+        Departing n (now parent) (now owner) leaves roots (now «base_low») (now «base_high»)
+        (now uppers) (now lowers) (now «saved_low») (now «saved_high») depth
+        ⌝ }
     requires { ⌜ Long (now low) (now high) × Room n (now uppers) (now lowers) ⌝ }
     ensures { λ r. ⌜
         ((s : Sheet n (now (parent .entry)) (now (owner .entry)) leaves roots (now («base_low» .entry)) (now («base_high» .entry)))
         (k : ℕ) →
         Leaving (s .graph) (decisions (now (uppers .entry)) (now (lowers .entry)) depth) k →
-        Moves (s .graph) (now (uppers .exit)) (now (lowers .exit)) (now (low .exit)) (now (high .exit)) k r)
+        Saved (s .graph) (now (uppers .entry)) (now (lowers .entry)) (now («saved_low» .entry)) (now («saved_high» .entry)) depth →
+        Moves (s .graph) (now (uppers .exit)) (now (lowers .exit)) (now (low .exit)) (now (high .exit)) k r
+        × SavedAt (s .graph) (now (uppers .exit)) (now (lowers .exit)) (now («saved_low» .exit)) (now («saved_high» .exit)) r)
         ⌝ }
 {
     let Moved::To(turned) = leave(
@@ -173,6 +201,8 @@ fn advance(
         base_high,
         low,
         high,
+        saved_low,
+        saved_high,
         uppers,
         lowers,
         depth,
@@ -187,6 +217,8 @@ fn advance(
         roots,
         low,
         high,
+        saved_low,
+        saved_high,
         uppers,
         lowers,
         turned,
@@ -205,6 +237,8 @@ pub fn next(
     base_high: &[u64],
     low: &mut [u64],
     high: &mut [u64],
+    saved_low: &mut [u64],
+    saved_high: &mut [u64],
     uppers: &mut [u8],
     lowers: &mut [u8],
     depth: usize,
@@ -214,11 +248,16 @@ pub fn next(
         (now uppers) (now lowers) (now low) (now high) depth
         ⌝ }
     requires { ⌜ Room n (now uppers) (now lowers) ⌝ }
+    requires { ⌜
+        ((s : Sheet n (now parent) (now owner) leaves roots (now «base_low») (now «base_high»)) →
+        Saved (s .graph) (now uppers) (now lowers) (now «saved_low») (now «saved_high») depth)
+        ⌝ }
     ensures { λ r. ⌜
         ((s : Sheet n (now (parent .entry)) (now (owner .entry)) leaves roots (now («base_low» .entry)) (now («base_high» .entry)))
         (k : ℕ) →
         Stands (s .graph) (now (uppers .entry)) (now (lowers .entry)) (now (low .entry)) (now (high .entry)) depth k →
-        Moves (s .graph) (now (uppers .exit)) (now (lowers .exit)) (now (low .exit)) (now (high .exit)) (k + 1) r)
+        Moves (s .graph) (now (uppers .exit)) (now (lowers .exit)) (now (low .exit)) (now (high .exit)) (k + 1) r
+        × SavedAt (s .graph) (now (uppers .exit)) (now (lowers .exit)) (now («saved_low» .exit)) (now («saved_high» .exit)) r)
         ⌝ }
 {
     let at = back(uppers, lowers, depth);
@@ -234,6 +273,8 @@ pub fn next(
         base_high,
         low,
         high,
+        saved_low,
+        saved_high,
         uppers,
         lowers,
         at - 1,
@@ -249,6 +290,8 @@ pub fn next(
             base_high,
             low,
             high,
+            saved_low,
+            saved_high,
             uppers,
             lowers,
             at,

@@ -7,20 +7,26 @@ use borrow.Author.Needs.{needs}
 use Rattle.listing.proofs.Readings.{listed}
 use Rattle.walk.specs.Given.{Sheet}
 use Rattle.walk.specs.States.{Stands}
+use Rattle.walk.specs.Levels.{Saved}
+use Rattle.walk.proofs.Saved.{saved-there}
+use Rattle.numbered.proofs.Numbers.{same-reach, only-not-at}
 use Rattle.numbered.proofs.reach.Statement.{statement}
 use Rattle.numbered.proofs.reach.Tie as tie
 
 abbrev Inv-loop : tie.InvT-loop
-Inv-loop parent owner n leaves roots base-low base-high low₀ high₀ uppers₀ lowers₀ k depth₀ before passed₀ low high uppers lowers depth passed =
+Inv-loop parent owner n leaves roots base-low base-high low₀ high₀ saved-low₀ saved-high₀ uppers₀ lowers₀ k depth₀ before passed₀ low high saved-low saved-high uppers lowers depth passed =
     (passed ≤ before)
     × (length low ≡ length low₀)
     × (length high ≡ length high₀)
     × (length uppers ≡ length uppers₀)
     × (length lowers ≡ length lowers₀)
     × ((s : Sheet n parent owner leaves roots base-low base-high) → Stands (s .graph) uppers lowers low high depth passed)
+    × ((s : Sheet n parent owner leaves roots base-low base-high) → Saved (s .graph) uppers lowers saved-low saved-high depth)
+    × (length saved-low ≡ length saved-low₀)
+    × (length saved-high ≡ length saved-high₀)
 
 abbrev μ-loop : tie.MeasureT-loop
-μ-loop parent owner n leaves roots base-low base-high low₀ high₀ uppers₀ lowers₀ k depth₀ before passed₀ low high uppers lowers depth passed = before - passed
+μ-loop parent owner n leaves roots base-low base-high low₀ high₀ saved-low₀ saved-high₀ uppers₀ lowers₀ k depth₀ before passed₀ low high saved-low saved-high uppers lowers depth passed = before - passed
 
 first-requires : tie.Need-first-requires Inv-loop μ-loop
 first-requires c κs = search needs
@@ -29,14 +35,13 @@ sub-before : tie.Need-sub-before Inv-loop μ-loop
 sub-before c = search needs
 
 loop-holds : tie.Need-loop-holds Inv-loop μ-loop
-loop-holds c = (omega arith, refl, refl, refl, refl, c .before .before .before .before .before .before .before .before .first .ensures)
+loop-holds c = (omega arith, refl, refl, refl, refl, λ s. c .before .before .before .before .before .before .before .before .before .before .before .before .first .ensures s .0, λ s. c .before .before .before .before .before .before .before .before .before .before .before .before .first .ensures s .1, refl, refl)
 
 next-requires : tie.Need-next-requires Inv-loop μ-loop
 next-requires c κs =
-    let s = c .before .before .before .before .before .before .before .before .before .before .before .before .before .before .before .before .before .before .before .before .before .before .before .before .before .before .before in
-    let l = c .before .before .before .before .before .loop in (
-      record { sheet = s .pre .0; passed = l .passed; stands = l .inv .5 (s .pre .0) },
-      (omega (arith, s .pre .1 .1 .0, l .inv .3), omega (arith, s .pre .1 .1 .1, l .inv .4)),
+    let l = c .before .before .before .before .before .before .before .loop in (
+      record { sheet = c .before .before .before .before .before .before .before .before .before .before .before .before .before .before .before .before .before .before .before .before .before .before .before .before .before .before .before .before .before .before .before .before .before .before .before .before .before .pre .0; passed = l .passed; stands = l .inv .5 (c .before .before .before .before .before .before .before .before .before .before .before .before .before .before .before .before .before .before .before .before .before .before .before .before .before .before .before .before .before .before .before .before .before .before .before .before .before .pre .0) },
+      ((omega (arith, c .before .before .before .before .before .before .before .before .before .before .before .before .before .before .before .before .before .before .before .before .before .before .before .before .before .before .before .before .before .before .before .before .before .before .before .before .before .pre .1 .1 .0, l .inv .3), omega (arith, c .before .before .before .before .before .before .before .before .before .before .before .before .before .before .before .before .before .before .before .before .before .before .before .before .before .before .before .before .before .before .before .before .before .before .before .before .before .pre .1 .1 .1, l .inv .4)), l .inv .6),
     )
 
 enum-known-deep : tie.Need-enum-known-deep Inv-loop μ-loop
@@ -45,8 +50,8 @@ enum-known-deep c = search needs
 enum-told : tie.Need-enum-told Inv-loop μ-loop
 enum-told c = search needs
 
-add-t35 : tie.Need-add-t35 Inv-loop μ-loop
-add-t35 c = omega (arith, c .before .before .before .before .before .before .before .before .before .before .before .before .before .before .before .before .before .before .before .before .before .before .before .before .before .before .before .before .before .before .before .before .before .before .before .before .before .before .fits .k, c .before .before .before .before .before .before .before .before .before .before .before .before .before .before .before .loop-test .taken)
+add-t45 : tie.Need-add-t45 Inv-loop μ-loop
+add-t45 c = omega (arith, c .before .before .before .before .before .before .before .before .before .before .before .before .before .before .before .before .before .before .before .before .before .before .before .before .before .before .before .before .before .before .before .before .before .before .before .before .before .before .before .before .before .before .before .before .before .before .before .before .before .before .before .before .fits .k, c .before .before .before .before .before .before .before .before .before .before .before .before .before .before .before .before .before .before .before .before .before .loop-test .taken)
 
 same-length : tie.Need-same-length Inv-loop μ-loop
 same-length c = search needs
@@ -60,30 +65,30 @@ same-length-3 c = search needs
 same-length-4 : tie.Need-same-length-4 Inv-loop μ-loop
 same-length-4 c = search needs
 
+same-length-5 : tie.Need-same-length-5 Inv-loop μ-loop
+same-length-5 c = search needs
+
+same-length-6 : tie.Need-same-length-6 Inv-loop μ-loop
+same-length-6 c = search needs
+
 returns : tie.Need-returns Inv-loop μ-loop
 returns c =
-    let l = c .before .before .before .before .before .before .before .before .before .before .before .before .before .before .before .before .loop in
+    let l = c .before .before .before .before .before .before .before .before .before .before .before .before .before .before .before .before .before .before .before .before .before .before .loop in
     λ h.
-    let all : length (listed (h .graph)) ≡ l .passed + 1 = rw (c .enum-told .given .1) at (c .before .before .before .before .before .before .before .before .before .before .next .ensures h (l .passed) (l .inv .5 h)) in
-    (all, omega arith)
+    let all : length (listed (h .graph)) ≡ l .passed + 1 = rw (c .enum-told .given .1) at (c .before .before .before .before .before .before .before .before .before .before .before .before .before .before .next .ensures h (l .passed) (l .inv .5 h) .0) in
+    ((all, omega arith), λ depth is. absurd (only-not-at is))
 
 add-passed : tie.Need-add-passed Inv-loop μ-loop
-add-passed c = omega (arith, c .before .before .before .before .before .before .before .before .before .before .before .before .before .before .before .before .before .before .before .before .before .before .before .before .before .before .before .before .before .before .before .before .before .before .before .before .before .before .before .fits .k)
+add-passed c = omega (arith, c .before .before .before .before .before .before .before .before .before .before .before .before .before .before .before .before .before .before .before .before .before .before .before .before .before .before .before .before .before .before .before .before .before .before .before .before .before .before .before .before .before .before .before .before .before .before .before .before .before .before .before .before .before .fits .k)
 
 loop-less : tie.Need-loop-less Inv-loop μ-loop
 loop-less c = search needs
 
 loop-again : tie.Need-loop-again Inv-loop μ-loop
 loop-again c =
-    let l = c .before .before .before .before .before .before .before .before .before .before .before .before .before .before .before .before .before .loop in
-    let e = c .before .before .before .before .before .before .before .before .before .before .before .next .ensures in
-    (omega (arith, c .before .before .before .before .before .before .before .before .before .before .before .before .before .before .before .before .loop-test .taken), search needs, search needs, search needs, search needs, λ h. rw (c .before .deep .given .1) at (e h (l .passed) (l .inv .5 h)))
-
-same-length-5 : tie.Need-same-length-5 Inv-loop μ-loop
-same-length-5 c = search needs
-
-same-length-6 : tie.Need-same-length-6 Inv-loop μ-loop
-same-length-6 c = search needs
+    let l = c .before .before .before .before .before .before .before .before .before .before .before .before .before .before .before .before .before .before .before .before .before .before .before .loop in
+    let e = c .before .before .before .before .before .before .before .before .before .before .before .before .before .before .before .next .ensures in
+    (omega (arith, c .before .before .before .before .before .before .before .before .before .before .before .before .before .before .before .before .before .before .before .before .before .before .loop-test .taken), search needs, search needs, search needs, search needs, λ h. rw (c .before .deep .given .1) at (e h (l .passed) (l .inv .5 h) .0), λ h. e h (l .passed) (l .inv .5 h) .1 _ (c .before .deep .given .1), search needs, search needs)
 
 same-length-7 : tie.Need-same-length-7 Inv-loop μ-loop
 same-length-7 c = search needs
@@ -91,12 +96,23 @@ same-length-7 c = search needs
 same-length-8 : tie.Need-same-length-8 Inv-loop μ-loop
 same-length-8 c = search needs
 
+same-length-9 : tie.Need-same-length-9 Inv-loop μ-loop
+same-length-9 c = search needs
+
+same-length-10 : tie.Need-same-length-10 Inv-loop μ-loop
+same-length-10 c = search needs
+
+same-length-11 : tie.Need-same-length-11 Inv-loop μ-loop
+same-length-11 c = search needs
+
+same-length-12 : tie.Need-same-length-12 Inv-loop μ-loop
+same-length-12 c = search needs
+
 returns-2 : tie.Need-returns-2 Inv-loop μ-loop
 returns-2 c =
     let l = c .before .loop in
-    let s = c .before .before .before .before .before .before .before .before .before .before .before .before .before .before .before .before .before .before .before .before .before .before .before in
-    let all : l .passed ≡ s .args .k - 1 = omega arith in
-    λ h. subst (λ (m : ℕ). Stands (h .graph) (l .uppers) (l .lowers) (l .low) (l .high) (l .depth) m) all (l .inv .5 h)
+    let all : l .passed ≡ c .before .before .before .before .before .before .before .before .before .before .before .before .before .before .before .before .before .before .before .before .before .before .before .before .before .before .before .before .before .before .before .args .k - 1 = omega arith in
+    λ h. (subst (λ (m : ℕ). Stands (h .graph) (l .uppers) (l .lowers) (l .low) (l .high) (l .depth) m) all (l .inv .5 h), λ deep is. saved-there (same-reach is) (l .inv .6 h))
 
 pub reach-spec : {M : Type 1} → statement M
 reach-spec =
@@ -110,17 +126,21 @@ reach-spec =
     next-requires
     enum-known-deep
     enum-told
-    add-t35
+    add-t45
     same-length
     same-length-2
     same-length-3
     same-length-4
+    same-length-5
+    same-length-6
     returns
     add-passed
     loop-less
     loop-again
-    same-length-5
-    same-length-6
     same-length-7
     same-length-8
+    same-length-9
+    same-length-10
+    same-length-11
+    same-length-12
     returns-2)

@@ -9,6 +9,7 @@ use borrow.Author.Needs.{needs}
 use Rattle.graph.specs.Order.{limit}
 use Rattle.walk.specs.Given.{Sheet}
 use Rattle.walk.specs.States.{Stands}
+use Rattle.walk.specs.Levels.{Saved}
 use Rattle.numbered.proofs.Numbers.{room}
 use Rattle.readings.proofs.print_readings.Statement.{statement}
 use Rattle.readings.proofs.print_readings.Tie as tie
@@ -19,14 +20,15 @@ fewer-left more true passed last e h on f = rw e (omega (arith, f refl))
 fewer-left more false passed last e h on f = rw e (omega arith)
 
 abbrev Inv-loop : tie.InvT-loop
-Inv-loop parent owner n leaves roots base-low base-high low₀ high₀ uppers₀ lowers₀ depth₀ out₀ passed₀ more₀ low high uppers lowers depth out passed more =
+Inv-loop parent owner n leaves roots base-low base-high low₀ high₀ saved-low₀ saved-high₀ uppers₀ lowers₀ depth₀ out₀ passed₀ more₀ low high saved-low saved-high uppers lowers depth out passed more =
     ((length low ≡ 128) × (length high ≡ 128))
     × ((length uppers ≡ 16384) × (length lowers ≡ 16384))
     × (length out ≡ 262144)
-    × (more ≡ true → (passed < limit) × ((s : Sheet n parent owner leaves roots base-low base-high) → Stands (s .graph) uppers lowers low high depth passed))
+    × (more ≡ true → (passed < limit) × ((s : Sheet n parent owner leaves roots base-low base-high) → Stands (s .graph) uppers lowers low high depth passed × Saved (s .graph) uppers lowers saved-low saved-high depth))
+    × ((length saved-low ≡ 4096) × (length saved-high ≡ 4096))
 
 abbrev μ-loop : tie.MeasureT-loop
-μ-loop parent owner n leaves roots base-low base-high low₀ high₀ uppers₀ lowers₀ depth₀ out₀ passed₀ more₀ low high uppers lowers depth out passed more = cond more (limit - passed) 0
+μ-loop parent owner n leaves roots base-low base-high low₀ high₀ saved-low₀ saved-high₀ uppers₀ lowers₀ depth₀ out₀ passed₀ more₀ low high saved-low saved-high uppers lowers depth out passed more = cond more (limit - passed) 0
 
 slice-aggregate-first : tie.Need-slice-aggregate-first Inv-loop μ-loop
 slice-aggregate-first c = search needs
@@ -40,13 +42,19 @@ slice-aggregate-first-3 c = search needs
 slice-aggregate-first-4 : tie.Need-slice-aggregate-first-4 Inv-loop μ-loop
 slice-aggregate-first-4 c = search needs
 
+slice-aggregate-first-5 : tie.Need-slice-aggregate-first-5 Inv-loop μ-loop
+slice-aggregate-first-5 c = search needs
+
+slice-aggregate-first-6 : tie.Need-slice-aggregate-first-6 Inv-loop μ-loop
+slice-aggregate-first-6 c = search needs
+
 first-requires : tie.Need-first-requires Inv-loop μ-loop
 first-requires c κs =
-    (c .before .before .before .before .before .before .before .before .pre, ((search needs, search needs), (omega (arith, room (c .before .before .before .before .before .before .before .before .pre)), omega (arith, room (c .before .before .before .before .before .before .before .before .pre)))))
+    (c .before .before .before .before .before .before .before .before .before .before .pre, ((search needs, search needs), (omega (arith, room (c .before .before .before .before .before .before .before .before .before .before .pre)), omega (arith, room (c .before .before .before .before .before .before .before .before .before .before .pre))), (search needs, search needs)))
 
 loop-holds : tie.Need-loop-holds Inv-loop μ-loop
 loop-holds c =
-    ((search needs, search needs), (search needs, search needs), length-replicate {0} {A = ℕ} 262144 0, λ e. (omega arith, c .before .before .before .before .first .ensures))
+    ((search needs, search needs), (search needs, search needs), length-replicate {0} {A = ℕ} 262144 0, λ e. (omega arith, c .before .before .before .before .before .before .first .ensures), (search needs, search needs))
 
 slice-aggregate-fill : tie.Need-slice-aggregate-fill Inv-loop μ-loop
 slice-aggregate-fill c = search needs
@@ -63,40 +71,41 @@ slice-aggregate-fill-4 c = search needs
 slice-aggregate-fill-5 : tie.Need-slice-aggregate-fill-5 Inv-loop μ-loop
 slice-aggregate-fill-5 c = search needs
 
+slice-aggregate-fill-6 : tie.Need-slice-aggregate-fill-6 Inv-loop μ-loop
+slice-aggregate-fill-6 c = search needs
+
+slice-aggregate-fill-7 : tie.Need-slice-aggregate-fill-7 Inv-loop μ-loop
+slice-aggregate-fill-7 c = search needs
+
 fill-requires : tie.Need-fill-requires Inv-loop μ-loop
 fill-requires c κs =
-    let l = c .before .before .before .before .before .before .loop in
-    let p = c .before .before .before .before .before .before .before .before .before .before .before .before .before .before .before .before .before .before .before .before .pre in
-    (p, (((l .inv .0 .0, l .inv .0 .1), (omega (arith, room p, l .inv .1 .0), omega (arith, room p, l .inv .1 .1)), l .inv .3 (c .before .before .before .before .before .loop-test .taken) .0, omega (arith, l .inv .2)), l .inv .3 (c .before .before .before .before .before .loop-test .taken) .1))
+    let l = c .before .before .before .before .before .before .before .before .loop in
+    let p = c .before .before .before .before .before .before .before .before .before .before .before .before .before .before .before .before .before .before .before .before .before .before .before .before .before .before .pre in
+    (p, (((l .inv .0 .0, l .inv .0 .1), (omega (arith, room p, l .inv .1 .0), omega (arith, room p, l .inv .1 .1)), l .inv .3 (c .before .before .before .before .before .before .before .loop-test .taken) .0, omega (arith, l .inv .2)), l .inv .3 (c .before .before .before .before .before .before .before .loop-test .taken) .1))
 
 print-total-requires : tie.Need-print-total-requires Inv-loop μ-loop
-print-total-requires c κs =
-    let f = c .before .before .before .before .before in
-    let p = f .before .before .before .before .before .before .before .before .before .before .before .before .before .before .before .before .before .before .before .before .before .pre in
-    (p, λ s. f .fill .ensures .1 s .ended)
+print-total-requires c κs = (c .before .before .before .before .before .before .before .before .before .before .before .before .before .before .before .before .before .before .before .before .before .before .before .before .before .before .before .before .before .before .before .before .before .before .pre, λ s. c .before .before .before .before .before .before .before .fill .ensures .1 s .0 .ended)
 
 array-share-prefix-out : tie.Need-array-share-prefix-out Inv-loop μ-loop
-array-share-prefix-out c =
-    c .before .before .before .before .before .before .fill .ensures .0 .0
+array-share-prefix-out c = c .before .before .before .before .before .before .before .before .fill .ensures .0 .0
 
 slice-aggregate-write-all : tie.Need-slice-aggregate-write-all Inv-loop μ-loop
-slice-aggregate-write-all c =
-    sym (length-take-le _ _ (array-share-prefix-out (c .before)))
+slice-aggregate-write-all c = sym (length-take-le _ _ (array-share-prefix-out (c .before)))
 
 write-all-requires : tie.Need-write-all-requires Inv-loop μ-loop
 write-all-requires c κs = search needs
 
 loop-less : tie.Need-loop-less Inv-loop μ-loop
 loop-less c =
-    let f = c .before .before .before .before .before .before .before .before in
-    let t = f .before .before .before .before .before .before in
-    let l = t .before .loop in
-    fewer-left (l .more) (f .fill .result .more) (l .passed) (f .fill .result .last) (t .loop-test .taken) (l .inv .3 (t .loop-test .taken) .0) (f .fill .ensures .0 .1) (f .fill .ensures .0 .2)
+    let l = c .before .before .before .before .before .before .before .before .before .before .before .before .before .before .before .before .before .before .before .loop in
+    let f = c .before .before .before .before .before .before .before .before .before .before .fill in
+    let some = c .before .before .before .before .before .before .before .before .before .before .before .before .before .before .before .before .before .before .loop-test .taken in
+    fewer-left (l .more) (f .result .more) (l .passed) (f .result .last) some (l .inv .3 some .0) (f .ensures .0 .1) (f .ensures .0 .2)
 
 loop-again : tie.Need-loop-again Inv-loop μ-loop
 loop-again c =
-    let f = c .before .before .before .before .before .before .before .before .fill in
-    ((search needs, search needs), (search needs, search needs), search needs, λ e. (f .ensures .0 .2 e, λ s. f .ensures .1 s .next e))
+    let f = c .before .before .before .before .before .before .before .before .before .before .fill in
+    ((search needs, search needs), (search needs, search needs), search needs, λ e. (f .ensures .0 .2 e, λ s. (f .ensures .1 s .0 .next e, f .ensures .1 s .1 e)), (search needs, search needs))
 
 returns : tie.Need-returns Inv-loop μ-loop
 returns c = search needs
@@ -111,6 +120,8 @@ print-readings-spec =
     slice-aggregate-first-2
     slice-aggregate-first-3
     slice-aggregate-first-4
+    slice-aggregate-first-5
+    slice-aggregate-first-6
     first-requires
     loop-holds
     slice-aggregate-fill
@@ -118,6 +129,8 @@ print-readings-spec =
     slice-aggregate-fill-3
     slice-aggregate-fill-4
     slice-aggregate-fill-5
+    slice-aggregate-fill-6
+    slice-aggregate-fill-7
     fill-requires
     print-total-requires
     array-share-prefix-out

@@ -23,13 +23,19 @@ slice-aggregate-reach-3 c = search needs
 slice-aggregate-reach-4 : tie.Need-slice-aggregate-reach-4
 slice-aggregate-reach-4 c = search needs
 
+slice-aggregate-reach-5 : tie.Need-slice-aggregate-reach-5
+slice-aggregate-reach-5 c = search needs
+
+slice-aggregate-reach-6 : tie.Need-slice-aggregate-reach-6
+slice-aggregate-reach-6 c = search needs
+
 add-reach : tie.Need-add-reach
 add-reach c = search needs
 
 reach-requires : tie.Need-reach-requires
 reach-requires c κs =
-    let s = c .before .before .before .before .before .before .before .before .before .before .pre .0 in
-    (s, ((search needs, search needs), (omega (arith, room s), omega (arith, room s)), omega arith))
+    let s = c .before .before .before .before .before .before .before .before .before .before .before .before .pre .0 in
+    (s, ((search needs, search needs), (omega (arith, room s), omega (arith, room s)), omega arith, (search needs, search needs)))
 
 enum-told : tie.Need-enum-told
 enum-told c = search needs
@@ -49,26 +55,32 @@ slice-aggregate-fill-3 c = search needs
 slice-aggregate-fill-4 : tie.Need-slice-aggregate-fill-4
 slice-aggregate-fill-4 c = search needs
 
+slice-aggregate-fill-5 : tie.Need-slice-aggregate-fill-5
+slice-aggregate-fill-5 c = search needs
+
+slice-aggregate-fill-6 : tie.Need-slice-aggregate-fill-6
+slice-aggregate-fill-6 c = search needs
+
 fill-requires : tie.Need-fill-requires
 fill-requires c κs =
-    let s = c .before .before .before .before .before .before .before .before .before .before .before .before .before .before .before .before .before .before .before .before .before .before .before .pre .0 in (
+    let s = c .before .before .before .before .before .before .before .before .before .before .before .before .before .before .before .before .before .before .before .before .before .before .before .before .before .before .before .before .before .pre .0 in (
       s,
       (
-        ((search needs, search needs), (omega (arith, room s, c .before .before .before .before .before .before .before .before .before .before .before .before .reach .kept), omega (arith, room s, c .before .before .before .before .before .before .before .before .before .before .before .before .reach .kept)), omega (arith, c .before .before .before .before .before .before .before .before .before .before .before .before .before .before .before .before .before .if1 .left), c .before .before .before .before .before .before .before .before .before .before .before .before .before .before .before .before .before .before .before .before .before .before .before .pre .1),
-        λ h. next-stands (h .graph) _ _ _ _ _ _ (c .before .before .before .before .before .before .before .before .before .before .before .before .reach .ensures h) (c .before .before .before .before .before .before .depth .given .1),
+        ((search needs, search needs), (omega (arith, room s, c .before .before .before .before .before .before .before .before .before .before .before .before .before .before .before .before .reach .kept), omega (arith, room s, c .before .before .before .before .before .before .before .before .before .before .before .before .before .before .before .before .reach .kept)), omega (arith, c .before .before .before .before .before .before .before .before .before .before .before .before .before .before .before .before .before .before .before .before .before .before .before .if1 .left), c .before .before .before .before .before .before .before .before .before .before .before .before .before .before .before .before .before .before .before .before .before .before .before .before .before .before .before .before .before .pre .1),
+        λ h. (next-stands (h .graph) _ _ _ _ _ _ (c .before .before .before .before .before .before .before .before .before .before .before .before .before .before .before .before .reach .ensures h .0) (c .before .before .before .before .before .before .before .before .depth .given .1), c .before .before .before .before .before .before .before .before .before .before .before .before .before .before .before .before .reach .ensures h .1 _ (c .before .before .before .before .before .before .before .before .depth .given .1)),
       ),
     )
 
 returns-2 : tie.Need-returns-2
 returns-2 c =
-    λ s. none-left (s .graph) _ _ _ _ _ _ (c .before .before .before .before .before .before .reach .ensures s) (c .enum-told .given .1) _
+    λ s. none-left (s .graph) _ _ _ _ _ _ (c .before .before .before .before .before .before .before .before .reach .ensures s .0) (c .enum-told .given .1) _
 
 same-length : tie.Need-same-length
 same-length c = search needs
 
 returns-3 : tie.Need-returns-3
 returns-3 c =
-    λ s. inr (c .before .before .before .before .before .before .fill .ensures s)
+    λ s. inr (c .before .before .before .before .before .before .before .before .fill .ensures s)
 
 pub stretch-spec : {M : Type 1} → statement M
 stretch-spec =
@@ -79,6 +91,8 @@ stretch-spec =
     slice-aggregate-reach-2
     slice-aggregate-reach-3
     slice-aggregate-reach-4
+    slice-aggregate-reach-5
+    slice-aggregate-reach-6
     add-reach
     reach-requires
     enum-told
@@ -87,6 +101,8 @@ stretch-spec =
     slice-aggregate-fill-2
     slice-aggregate-fill-3
     slice-aggregate-fill-4
+    slice-aggregate-fill-5
+    slice-aggregate-fill-6
     fill-requires
     returns-2
     same-length

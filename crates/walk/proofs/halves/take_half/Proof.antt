@@ -1,8 +1,10 @@
 -- The decision is that of the half entered.
 use denote.Ref.{now}
-use borrow.Author.Needs.{needs}
 use Rattle.walk.proofs.Walks.{enters-first, enters-second}
 use Rattle.walk.proofs.Fitting.{fits-at}
+use native.Mathlib.Omega.{arith}
+use Rattle.walk.proofs.Dives.{kept-all, kept-set}
+use borrow.Author.Needs.{needs}
 use Rattle.walk.proofs.halves.take_half.Statement.{statement}
 use Rattle.walk.proofs.halves.take_half.Tie as tie
 
@@ -47,13 +49,15 @@ same-length-4 c = search needs
 
 returns : tie.Need-returns
 returns c =
-    let s = c .before .before .before .before .before .before .before .before .before .before .before .before .before .before in
-    let a = s .args in
+    let a = c .before .before .before .before .before .before .before .before .before .before .before .before .before .before .args in
     let e = c .before .before .before .before .before .enter-half .ensures in (
       e .0,
-      λ g k v f x choice.
-          enters-first (f .owned .shaped) x choice (s .pre .1 .0) (s .pre .1 .1)
-          (rw (c .if1 .taken) at (e .1 _ v (fits-at (a .n) (x .entering .valid) (now (a .parent)) (now (a .owner)) f) choice (x .rows))),
+      (
+        kept-set (a .depth) _ _ (omega arith) (kept-all _ _ _),
+        λ g k v f x choice.
+            enters-first (f .owned .shaped) x choice (c .before .before .before .before .before .before .before .before .before .before .before .before .before .before .pre .1 .0) (c .before .before .before .before .before .before .before .before .before .before .before .before .before .before .pre .1 .1)
+            (rw (c .if1 .taken) at (e .1 _ v (fits-at (a .n) (x .entering .valid) (now (a .parent)) (now (a .owner)) f) choice (x .rows))),
+      ),
     )
 
 same-length-5 : tie.Need-same-length-5
@@ -70,13 +74,15 @@ same-length-8 c = search needs
 
 returns-2 : tie.Need-returns-2
 returns-2 c =
-    let s = c .before .before .before .before .before .before .before .before .before .before .before .before .before .before in
-    let a = s .args in
+    let a = c .before .before .before .before .before .before .before .before .before .before .before .before .before .before .args in
     let e = c .before .before .before .before .before .enter-half .ensures in (
       e .0,
-      λ g k v f x choice.
-          enters-second (f .owned .shaped) x choice (s .pre .1 .0) (s .pre .1 .1)
-          (rw (c .if1 .left) at (e .1 _ v (fits-at (a .n) (x .entering .valid) (now (a .parent)) (now (a .owner)) f) choice (x .rows))),
+      (
+        kept-set (a .depth) _ _ (omega arith) (kept-all _ _ _),
+        λ g k v f x choice.
+            enters-second (f .owned .shaped) x choice (c .before .before .before .before .before .before .before .before .before .before .before .before .before .before .pre .1 .0) (c .before .before .before .before .before .before .before .before .before .before .before .before .before .before .pre .1 .1)
+            (rw (c .if1 .left) at (e .1 _ v (fits-at (a .n) (x .entering .valid) (now (a .parent)) (now (a .owner)) f) choice (x .rows))),
+      ),
     )
 
 pub take-half-spec : {M : Type 1} → statement M

@@ -1,18 +1,18 @@
 -- Out of the half, and on to the next reading.
 use native.Mathlib.Omega.{arith}
 use denote.Ref.{now}
-use borrow.Author.Needs.{needs}
 use Rattle.walk.proofs.Fitting.{owners-table, valid-within}
+use Rattle.walk.proofs.Saved.{saved-there, same-move, end-not-to}
+use borrow.Author.Needs.{needs}
 use Rattle.walk.proofs.steps.advance.Statement.{statement}
 use Rattle.walk.proofs.steps.advance.Tie as tie
 
 leave-requires : tie.Need-leave-requires
 leave-requires c κs =
-    let s = c .before .before .before .before .before .before .before .before .before .before .before .before in
-    let a = s .args in
-    let h = s .pre .0 .sheet in (
-      (h .parents-table, owners-table (h .owners-long) (h .fits .owned), (h .rows .low-long, h .rows .high-long), s .pre .1 .0),
-      valid-within (h .graph) (a .n) (now (a .owner)) (now (a .uppers)) (now (a .lowers)) (h .fits .owned) (a .depth) (s .pre .1 .1) (s .pre .0 .leaving .valid),
+    let a = c .before .before .before .before .before .before .before .before .before .before .before .before .before .before .before .before .args in
+    let h = c .before .before .before .before .before .before .before .before .before .before .before .before .before .before .before .before .pre .0 .sheet in (
+      (h .parents-table, owners-table (h .owners-long) (h .fits .owned), (h .rows .low-long, h .rows .high-long), c .before .before .before .before .before .before .before .before .before .before .before .before .before .before .before .before .pre .1 .0, c .before .before .before .before .before .before .before .before .before .before .before .before .before .before .before .before .pre .0 .saved .long),
+      valid-within (h .graph) (a .n) (now (a .owner)) (now (a .uppers)) (now (a .lowers)) (h .fits .owned) (a .depth) (c .before .before .before .before .before .before .before .before .before .before .before .before .before .before .before .before .pre .1 .1) (c .before .before .before .before .before .before .before .before .before .before .before .before .before .before .before .before .pre .0 .leaving .valid),
     )
 
 enum-known-turned : tie.Need-enum-known-turned
@@ -33,33 +33,31 @@ same-length-3 c = search needs
 same-length-4 : tie.Need-same-length-4
 same-length-4 c = search needs
 
-returns : tie.Need-returns
-returns c =
-    let e = c .before .before .before .before .before .before .before .before .before .before .leave .ensures in
-    λ h k x. rw (c .enum-told .given .1) at (e (h .graph) k (h .fits) (h .rows) x)
-
-enter-requires : tie.Need-enter-requires
-enter-requires c κs =
-    let s = c .before .before .before .before .before .before .before .before .before .before .before .before .before .before .before .before .before .before .before .before .before .before .before .before .before .before .before .before in
-    let h = s .pre .0 .sheet in
-    let e = c .before .before .before .before .before .before .before .before .before .before .before .before .before .before .before .leave .ensures in (
-      record {
-        graph = h .graph;
-        passed = s .pre .0 .passed;
-        parents-table = h .parents-table;
-        owners-long = h .owners-long;
-        fits = h .fits;
-        ends = h .ends;
-        enters = rw (c .before .before .before .before .before .turned .given .1) at (e (h .graph) (s .pre .0 .passed) (h .fits) (h .rows) (s .pre .0 .leaving));
-      },
-      (omega (arith, s .pre .1 .1 .0, c .before .before .before .before .before .before .before .before .before .before .before .before .before .before .before .leave .kept .1 .1 .1 .1 .1 .1 .1 .0), omega (arith, s .pre .1 .1 .1, c .before .before .before .before .before .before .before .before .before .before .before .before .before .before .before .leave .kept .1 .1 .1 .1 .1 .1 .1 .1 .0)),
-    )
-
 same-length-5 : tie.Need-same-length-5
 same-length-5 c = search needs
 
 same-length-6 : tie.Need-same-length-6
 same-length-6 c = search needs
+
+returns : tie.Need-returns
+returns c =
+    λ h k x sv. (rw (c .enum-told .given .1) at (c .before .before .before .before .before .before .before .before .before .before .leave .ensures (h .graph) k (h .fits) (h .rows) x sv .0), λ deep is. absurd (end-not-to is))
+
+enter-requires : tie.Need-enter-requires
+enter-requires c κs =
+    let h = c .before .before .before .before .before .before .before .before .before .before .before .before .before .before .before .before .before .before .before .before .before .before .before .before .before .before .before .before .before .before .before .before .before .before .pre .0 .sheet in
+    let e = c .before .before .before .before .before .before .before .before .before .before .before .before .before .before .before .before .before .leave .ensures in (
+      record {
+        graph = h .graph;
+        passed = c .before .before .before .before .before .before .before .before .before .before .before .before .before .before .before .before .before .before .before .before .before .before .before .before .before .before .before .before .before .before .before .before .before .before .pre .0 .passed;
+        parents-table = h .parents-table;
+        owners-long = h .owners-long;
+        fits = h .fits;
+        ends = h .ends;
+        enters = rw (c .before .before .before .before .before .before .before .turned .given .1) at (e (h .graph) (c .before .before .before .before .before .before .before .before .before .before .before .before .before .before .before .before .before .before .before .before .before .before .before .before .before .before .before .before .before .before .before .before .before .before .pre .0 .passed) (h .fits) (h .rows) (c .before .before .before .before .before .before .before .before .before .before .before .before .before .before .before .before .before .before .before .before .before .before .before .before .before .before .before .before .before .before .before .before .before .before .pre .0 .leaving) (c .before .before .before .before .before .before .before .before .before .before .before .before .before .before .before .before .before .before .before .before .before .before .before .before .before .before .before .before .before .before .before .before .before .before .pre .0 .saved) .0);
+      },
+      ((omega (arith, c .before .before .before .before .before .before .before .before .before .before .before .before .before .before .before .before .before .before .before .before .before .before .before .before .before .before .before .before .before .before .before .before .before .before .pre .1 .1 .0, c .before .before .before .before .before .before .before .before .before .before .before .before .before .before .before .before .before .leave .kept .1 .1 .1 .1 .1 .1 .1 .1 .1 .0), omega (arith, c .before .before .before .before .before .before .before .before .before .before .before .before .before .before .before .before .before .before .before .before .before .before .before .before .before .before .before .before .before .before .before .before .before .before .pre .1 .1 .1, c .before .before .before .before .before .before .before .before .before .before .before .before .before .before .before .before .before .leave .kept .1 .1 .1 .1 .1 .1 .1 .1 .1 .1 .0)), c .before .before .before .before .before .before .before .before .before .before .before .before .before .before .before .before .before .before .before .before .before .before .before .before .before .before .before .before .before .before .before .before .before .before .pre .0 .saved .long),
+    )
 
 same-length-7 : tie.Need-same-length-7
 same-length-7 c = search needs
@@ -67,10 +65,24 @@ same-length-7 c = search needs
 same-length-8 : tie.Need-same-length-8
 same-length-8 c = search needs
 
+same-length-9 : tie.Need-same-length-9
+same-length-9 c = search needs
+
+same-length-10 : tie.Need-same-length-10
+same-length-10 c = search needs
+
+same-length-11 : tie.Need-same-length-11
+same-length-11 c = search needs
+
+same-length-12 : tie.Need-same-length-12
+same-length-12 c = search needs
+
 returns-2 : tie.Need-returns-2
 returns-2 c =
-    let e = c .before .before .before .before .before .before .before .before .before .before .before .before .before .before .before .before .before .before .before .before .before .before .before .before .leave .ensures in
-    λ h k x. c .before .before .before .before .before .before .before .before .enter .ensures (h .graph) k (h .fits) (h .ends) (rw (c .before .before .before .before .before .before .before .before .before .before .before .before .before .before .turned .given .1) at (e (h .graph) k (h .fits) (h .rows) x))
+    λ h k x sv.
+    let l = c .before .before .before .before .before .before .before .before .before .before .before .before .before .before .before .before .before .before .before .before .before .before .before .before .before .before .before .before .before .before .leave .ensures (h .graph) k (h .fits) (h .rows) x sv in
+    let y = c .before .before .before .before .before .before .before .before .before .before .before .before .enter .ensures (h .graph) k (h .fits) (h .ends) (rw (c .before .before .before .before .before .before .before .before .before .before .before .before .before .before .before .before .before .before .before .before .turned .given .1) at (l .0)) in
+    (y .0, λ deep is. saved-there (same-move is) (y .1 (l .1 _ (c .before .before .before .before .before .before .before .before .before .before .before .before .before .before .before .before .before .before .before .before .turned .given .1))))
 
 pub advance-spec : {M : Type 1} → statement M
 advance-spec =
@@ -83,10 +95,14 @@ advance-spec =
     same-length-2
     same-length-3
     same-length-4
-    returns
-    enter-requires
     same-length-5
     same-length-6
+    returns
+    enter-requires
     same-length-7
     same-length-8
+    same-length-9
+    same-length-10
+    same-length-11
+    same-length-12
     returns-2)
