@@ -28,8 +28,8 @@
  *  - no pointer is null, not even one with the length 0;
  *  - each points to as many bytes as the length after it says, or to one number;
  *  - what a function may write is lent to it only once, and used by nobody else meanwhile.
- * The functions keep nothing between calls, allocate nothing and need some tens of kilobytes of
- * stack. They may run in several threads at once.
+ * The functions keep nothing between calls, allocate nothing and need no more than 256 kilobytes
+ * of stack. They may run in several threads at once.
  */
 #ifndef BIXTOGAN_H
 #define BIXTOGAN_H
