@@ -26,14 +26,14 @@ pub record Same (r r′ : Placed) (new new′ : List ℕ) : Type 0 where
   pub number : placedNumber r ≡ placedNumber r′
   pub but-for-a-cycle : (placedNumber r ≡ asNoReading → ⊥) → (r ≡ r′) × (new ≡ new′)
 
-same-bytes : {r : Placed} {new new′ : List ℕ} → new ≡ new′ → Same r r new new′
+pub same-bytes : {r : Placed} {new new′ : List ℕ} → new ≡ new′ → Same r r new new′
 same-bytes e = record { number = refl; but-for-a-cycle = λ n. (refl, e) }
 
 module _ {g : Graph} (s : Shaped g) where
-  has-none : {ps : List (List ℕ)} → Unsolvable g → Listing g ps → 0 < length ps → ⊥
+  pub has-none : {ps : List (List ℕ)} → Unsolvable g → Listing g ps → 0 < length ps → ⊥
   has-none {ps} u l h = u (entry ps 0, l .only-readings 0 h .solved)
 
-  reaches : {ps qs : List (List ℕ)} → Listing g ps → Listing g qs → reach ps ≡ reach qs
+  pub reaches : {ps qs : List (List ℕ)} → Listing g ps → Listing g qs → reach ps ≡ reach qs
   reaches l k = ap (λ (z : List (List ℕ)). reach z) (listing-unique g s l k)
 
   pub count-determined : {r r′ : Counted} → Counts g r → Counts g r′ → r ≡ r′

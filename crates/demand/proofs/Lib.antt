@@ -3,3 +3,4 @@ pub mod Handing
 pub mod Demand3
 pub mod Determined
 pub mod Possible
+pub mod Stretches

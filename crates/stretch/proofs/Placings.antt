@@ -5,7 +5,7 @@ use mathlib.Core.List.{List, [], _∷_, _++_, append-assoc, append-nil}
 use mathlib.Core.Logic.{_⊎_, inl, inr}
 use native.Mathlib.Omega.{arith}
 use native.Mathlib.Numerals.{add-one}
-use lib.ListN.{length, getD, take, drop, take-append-drop, length-drop}
+use lib.ListN.{length, getD, take, drop, take-append-drop, length-append, length-drop}
 use lib.Seq.{length-take-le, take-all, drop-length, drop-drop, getD-drop, take-append-add, drop-append-add}
 use borrow.Rule.Slice.PartMut.{midOf, putMid}
 use Rattle.nodeset.specs.declared.NodeSet.{NodeSet}
@@ -44,6 +44,24 @@ placings-more ps passed last h below =
     ap (λ (m : ℕ). joined (take m (drop passed ps))) more
     ∙ joined-more (drop passed ps) (last - passed) (omega (arith, length-drop passed ps))
     ∙ ap (λ (p : List ℕ). placings ps passed last ++ p) (getD-drop passed ps (last - passed) [] ∙ ap (entry ps) back)
+
+-- readings have n bytes each, so that one more takes as many more
+module _ (ps : List (List ℕ)) (n : ℕ) (long : (i : ℕ) → i < length ps → length (entry ps i) ≡ n) (passed k : ℕ) (h : passed ≤ k) where
+  grown : (j : ℕ) → k + 1 + j ≤ length ps → length (placings ps passed k) + n ≤ length (placings ps passed (k + 1 + j))
+  grown zero below =
+      let here : length (placings ps passed (k + 1)) ≡ length (placings ps passed k) + length (entry ps k) = ap length (placings-more ps passed k h (omega arith)) ∙ length-append (placings ps passed k) (entry ps k) in
+      let same : k + 1 ≡ k + 1 + 0 = omega arith in
+      subst (λ (m : ℕ). length (placings ps passed k) + n ≤ length (placings ps passed m)) same (omega (arith, here, long k (omega arith)))
+  grown (suc j) below =
+      let here : length (placings ps passed (k + 1 + j + 1)) ≡ length (placings ps passed (k + 1 + j)) + length (entry ps (k + 1 + j)) =
+      ap length (placings-more ps passed (k + 1 + j) (omega (arith, h)) (omega arith)) ∙ length-append (placings ps passed (k + 1 + j)) (entry ps (k + 1 + j)) in
+      let same : k + 1 + j + 1 ≡ k + 1 + suc j = omega arith in
+      subst (λ (m : ℕ). length (placings ps passed k) + n ≤ length (placings ps passed m)) same (omega (arith, here, grown j (omega arith)))
+
+  pub placings-grow : (last : ℕ) → k < last → last ≤ length ps → length (placings ps passed k) + n ≤ length (placings ps passed last)
+  placings-grow last more below =
+      let same : k + 1 + (last - k - 1) ≡ last = omega (arith, more) in
+      subst (λ (m : ℕ). length (placings ps passed k) + n ≤ length (placings ps passed m)) same (grown (last - k - 1) (omega (arith, same)))
 
 -- the bytes from `at` on, lent and put back
 
