@@ -118,6 +118,7 @@ impl Place {
             StretchOf (outcome (now (sheet .entry))) (self .number) (now (out .entry)) (r .answer) (r .place .number) (now (out .exit))
             ⌝ }
     {
+        let place = self;
         let answer = read(sheet);
         let verdict = answer.verdict;
         let graph = answer.graph;
@@ -127,9 +128,9 @@ impl Place {
         match verdict {
             Verdict::Refused(why) => Next {
                 answer: Placed::Refused(why),
-                place: self,
+                place,
             },
-            Verdict::Accepted => stretch_of(&parent, &low, &high, graph.n, self, out),
+            Verdict::Accepted => stretch_of(&parent, &low, &high, graph.n, place, out),
         }
     }
 }

@@ -145,9 +145,9 @@ pub(crate) fn stretch_of(
         &mut high,
     );
     if !begun.solvable {
-        let pairs = witness(parent, heads_low, heads_high, n, out);
+        let c = witness(parent, heads_low, heads_high, n, out);
         return Next {
-            answer: Placed::NoReading(pairs),
+            answer: Placed::NoReading(c),
             place,
         };
     }
