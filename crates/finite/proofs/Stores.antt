@@ -2,14 +2,14 @@
 use Prim.Native.Nat.{ℕ, _+_, _≤_, _<_}
 use mathlib.Core.Path.{_≡_, refl, sym, ap, _∙_}
 use mathlib.Core.List.{List, [], _∷_, _++_}
-use mathlib.Core.Bool.{true, false}
+use mathlib.Core.Bool.{true, false, cond}
 use native.Mathlib.Nat.{add-zero, add-assoc}
 use native.Mathlib.Numerals.{add-one}
 use native.Mathlib.Omega.{arith}
 use lib.Dec.{eqb, ltb}
 use lib.ListN.{length, getD, set, replicate, length-append, length-replicate, getD-replicate, List·getD-eq-default}
 use lib.Seq.{length-sets, getD-set-same, getD-set-other, ext-getD}
-use borrow.Author.Tests.{eqb-true, eqb-false, ltb-true, ltb-false}
+use borrow.Author.Tests.{eqb-true, eqb-false, lt-ltb, le-ltb, ltb-true, ltb-false}
 use Rattle.finite.proofs.Laws.{by-bool}
 use Rattle.finite.proofs.Runs.{sets-append}
 use Rattle.finite.specs.Stores.{Written}
@@ -61,6 +61,27 @@ entry-more f l v x h e below k lt =
     (λ (t : eqb k v ≡ false).
     let apart : k ≡ v → ⊥ = eqb-false k v t in
     rw (getD-set-other l v k x 0 apart) (below k (omega arith)))
+
+-- the first v entries are f's, and the others as before
+abbrev pub Filled : (ℕ → ℕ) → ℕ → List ℕ → List ℕ → Type 0
+Filled f v old new = (k : ℕ) → getD new k 0 ≡ cond (ltb k v) (f k) (getD old k 0)
+
+pub filled-none : (f : ℕ → ℕ) (old : List ℕ) → Filled f 0 old old
+filled-none f old k = rw (le-ltb k 0 (omega arith))
+
+pub filled-more : (f : ℕ → ℕ) (v : ℕ) (old new : List ℕ) (x : ℕ) → v < length new → x ≡ f v → Filled f v old new → Filled f (v + 1) old (set new v x)
+filled-more f v old new x h e so k =
+    by-bool (eqb k v)
+    (λ (t : eqb k v ≡ true).
+    let i : k ≡ v = eqb-true k v t in
+    rw (i, lt-ltb v (v + 1) (omega arith), getD-set-same new v x 0 h) e)
+    (λ (t : eqb k v ≡ false).
+    let other : k ≡ v → ⊥ = eqb-false k v t in
+    getD-set-other new v k x 0 other
+    ∙ so k
+    ∙ by-bool (ltb k v)
+    (λ (l : ltb k v ≡ true). rw (l, lt-ltb k (v + 1) (omega (arith, ltb-true k v l))))
+    (λ (l : ltb k v ≡ false). rw (l, le-ltb k (v + 1) (omega (arith, ltb-false k v l)))))
 
 -- a table whose entries are those of another is that one
 pub copied-all : (from l : List ℕ) (k : ℕ) → length l ≡ length from → length l ≤ k → ((i : ℕ) → i < k → getD l i 0 ≡ getD from i 0) → l ≡ from

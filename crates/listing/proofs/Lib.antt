@@ -7,3 +7,4 @@ pub mod Readings
 pub mod Guided
 pub mod Induction
 pub mod Reduced
+pub mod Keeping

@@ -22,12 +22,12 @@ use Rattle.paths.proofs.Shape.{Shaped}
 use Rattle.paths.proofs.Closure.{path-trans, path-map}
 use Rattle.paths.proofs.Table.{listed as row, hangs-parts, hangs-intro}
 use Rattle.paths.proofs.Forests.{acyclic-forest}
-use Rattle.listing.proofs.Redundancy.{Loopless, NoneBetween, between, keptTable, kept, kept-iff, kept-holds, kept-within}
+use Rattle.listing.proofs.Redundancy.{Loopless, NoneBetween, keptTable, kept, kept-iff, kept-holds, kept-within}
 use Rattle.listing.proofs.Choosing.{lowestAbove, Unforked}
 use Rattle.listing.proofs.Between.{descent-by-edges}
 
 -- a number below n, and `none` for what is not
-unfoldable within : ℕ → ℕ → ℕ
+unfoldable pub within : ℕ → ℕ → ℕ
 within n l = cond (ltb l n) l none
 
 unfoldable settledBy : ℕ → List (List Bool) → List ℕ
@@ -51,11 +51,11 @@ unfolding row
 length-row zero f = refl
 length-row (suc n) f = ap suc (length-row n (λ k. f (suc k)))
 
-settled-length : (g : Graph) → length (settled g) ≡ g .nodes
+pub settled-length : (g : Graph) → length (settled g) ≡ g .nodes
 unfolding settled settledBy
 settled-length g = length-row (g .nodes) (λ r. within (g .nodes) (lowestAbove (g .nodes) (keptTable g) r))
 
-settled-at : (g : Graph) (r : ℕ) → r < g .nodes → at (settled g) r ≡ within (g .nodes) (lowestAbove (g .nodes) (keptTable g) r)
+pub settled-at : (g : Graph) (r : ℕ) → r < g .nodes → at (settled g) r ≡ within (g .nodes) (lowestAbove (g .nodes) (keptTable g) r)
 unfolding settled settledBy
 settled-at g r h = getD-row (g .nodes) (λ r. within (g .nodes) (lowestAbove (g .nodes) (keptTable g) r)) r h
 
