@@ -20,7 +20,7 @@ use Rattle.paths.proofs.Shape.{Shaped, well-formed-shaped}
 use Rattle.paths.proofs.Forests.{placing-length}
 use Rattle.listing.proofs.Readings.{listed, listing-exists, listed-solved, one-below}
 use Rattle.rows.specs.Rows.{Tables}
-use Rattle.walk.specs.Given.{Sheet}
+use Rattle.halves.specs.Given.{Sheet}
 use Rattle.witness.specs.Thinning.{Unsolved}
 use Rattle.configure.specs.Given.{Solved}
 use Rattle.configure.specs.Step.{Configured}

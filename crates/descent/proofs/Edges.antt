@@ -1,55 +1,25 @@
--- The steps of the loops: a row joined, an edge added row by row, and edges added one after the other.
-use Prim.Native.Nat.{ℕ, _+_, _-_, _^_, _≤_, _<_}
+-- The steps of the loops: a column read row by row, rows joined one by one, and edges added one after the other.
+use Prim.Native.Nat.{ℕ, _+_, _≤_, _<_}
 use mathlib.Core.Path.{_≡_, refl, sym, _∙_}
 use mathlib.Core.List.{List}
 use mathlib.Core.Bool.{Bool, true, false, not, _&&_, _||_, or-assoc}
-use mathlib.Core.Logic.{_⊎_, ⊎-elim, _↔_}
+use mathlib.Core.Logic.{⊎-elim, _↔_}
 use native.Mathlib.Omega.{arith}
 use lib.Dec.{eqb, ltb}
-use lib.ListN.{length, getD, set, length-set, List·getD-eq-default}
+use lib.ListN.{length, getD, set, List·getD-eq-default}
 use lib.Seq.{getD-set-same, getD-set-other}
-use borrow.Author.Tests.{not-true, not-false, eq-eqb, ne-eqb, eqb-true, eqb-false, lt-ltb, le-ltb, ltb-true, ltb-false}
-use Rattle.finite.specs.Below.{any, least}
-use Rattle.finite.proofs.Laws.{by-bool, or-cases, or-false, and-both, and-true, and-false, any-found, any-false, least-at, least-below, least-holds}
-use Rattle.nodeset.specs.Set.{member, mem, Removed}
+use borrow.Author.Tests.{eq-eqb, ne-eqb, eqb-true, eqb-false, lt-ltb, le-ltb, ltb-true, ltb-false}
+use Rattle.finite.proofs.Laws.{by-bool, or-cases, or-false, and-both, and-false}
+use Rattle.nodeset.specs.Set.{mem, Empty, Inserted, Removed, Union}
 use Rattle.nodeset.specs.declared.NodeSet.{NodeSet}
-use Rattle.nodeset.proofs.Laws.{member-zero, member-beyond}
+use Rattle.nodeset.proofs.Laws.{member-zero}
+use Rattle.nodeset.proofs.Members.{Small, removed-member}
 use Rattle.graph.specs.Graph.{none}
 use Rattle.paths.proofs.Closure.{Adding}
 use Rattle.paths.proofs.Table.{or-holds, and-holds, eqb-holds}
-use Rattle.rows.specs.Rows.{inRow}
-use Rattle.descent.specs.Closing.{RowExtended, Extended, Links, linkTo, linkIn, headOf, headIn, Closed, Adds}
+use Rattle.rows.specs.Rows.{inRow, IsRow, RowPut}
+use Rattle.descent.specs.Closing.{Rising, Joined, Extended, Links, linkTo, linkIn, headOf, headIn, Closed, Adds}
 use Rattle.descent.proofs.Laws.{rows-map, path-iff, extended-rows}
-
--- one row
-
-pub row-kept : (a x : ℕ) (extra : NodeSet) (low high : List ℕ) → (eqb x a || inRow low high x a) ≡ false → RowExtended a x extra low high low high
-row-kept a x extra low high not-there =
-    record {
-      low-long = refl;
-      high-long = refl;
-      row-is = λ u v.
-          by-bool (eqb u x)
-          (λ (e : eqb u x ≡ true). let q : u ≡ x = eqb-true u x e in rw (e, q, not-there) (sym (or-false (inRow low high x v))))
-          (λ (e : eqb u x ≡ false). rw e (sym (or-false (inRow low high u v))));
-    }
-
-pub row-joined : (a x : ℕ) (extra : NodeSet) (low high : List ℕ) (lo hi : ℕ) → x < length low → x < length high → (eqb x a || inRow low high x a) ≡ true
-    → ((j : ℕ) → member lo hi j ≡ (inRow low high x j || mem extra j))
-    → RowExtended a x extra low high (set low x lo) (set high x hi)
-row-joined a x extra low high lo hi hl hh there joined =
-    record {
-      low-long = length-set low x lo;
-      high-long = length-set high x hi;
-      row-is = λ u v.
-          by-bool (eqb u x)
-          (λ (e : eqb u x ≡ true).
-          let q : u ≡ x = eqb-true u x e in
-          rw (e, q, there, getD-set-same low x lo 0 hl, getD-set-same high x hi 0 hh) (joined v))
-          (λ (e : eqb u x ≡ false).
-          let other : u ≡ x → ⊥ = eqb-false u x e in
-          rw (e, getD-set-other low x u lo 0 other, getD-set-other high x u hi 0 other) (sym (or-false (inRow low high u v))));
-    }
 
 -- cleared rows
 
@@ -71,43 +41,113 @@ pub cleared : (low high : List ℕ) (n : ℕ) → length low ≤ n → length hi
     → (u v : ℕ) → inRow low high u v ≡ false
 cleared low high n l h lows highs u v = rw (zero-all low n l lows u, zero-all high n h highs u) (member-zero v)
 
--- an edge, row by row
+-- one number more
 
-pub extended-none : (a r : ℕ) (low high : List ℕ) → Extended 0 a r low high low high
-extended-none a r low high =
+below-more-test : (v n : ℕ) → ltb v (n + 1) ≡ (ltb v n || eqb v n)
+below-more-test v n =
+    by-bool (ltb v n)
+    (λ (e : ltb v n ≡ true). rw (e, lt-ltb v (n + 1) (omega (arith, ltb-true v n e))))
+    (λ (e : ltb v n ≡ false).
+    rw e
+    (by-bool (eqb v n)
+    (λ (i : eqb v n ≡ true). rw (i, lt-ltb v (n + 1) (omega (arith, eqb-true v n i))))
+    (λ (i : eqb v n ≡ false).
+    let other : v ≡ n → ⊥ = eqb-false v n i in
+    rw (i, le-ltb v (n + 1) (omega (arith, ltb-false v n e))))))
+
+-- a column, row by row
+
+pub column-none : (p : ℕ → Bool) (s : NodeSet) → Empty s → (x : ℕ) → mem s x ≡ (ltb x 0 && p x)
+column-none p s none x = rw (le-ltb x 0 (omega arith)) (none x)
+
+module _ (p : ℕ → Bool) (n : ℕ) (s : NodeSet) (before : (x : ℕ) → mem s x ≡ (ltb x n && p x)) where
+  pub column-there : (t : NodeSet) → p n ≡ true → Inserted s n t → (x : ℕ) → mem t x ≡ (ltb x (n + 1) && p x)
+  column-there t there is x =
+      is x
+      ∙ rw (before x, below-more-test x n)
+      (by-bool (eqb x n)
+      (λ (e : eqb x n ≡ true). rw (e, eqb-true x n e, there, le-ltb n n (omega arith)))
+      (λ (e : eqb x n ≡ false). rw (e, or-false (ltb x n))))
+
+  pub column-not : p n ≡ false → (x : ℕ) → mem s x ≡ (ltb x (n + 1) && p x)
+  column-not gone x =
+      before x
+      ∙ rw (below-more-test x n)
+      (by-bool (eqb x n)
+      (λ (e : eqb x n ≡ true). rw (e, eqb-true x n e, gone, and-false (ltb n n), and-false (ltb n n || true)))
+      (λ (e : eqb x n ≡ false). rw (e, or-false (ltb x n))))
+
+-- a column with a itself
+pub column-rising : (n a : ℕ) (low high : List ℕ) (s r : NodeSet) → a < n → ((x : ℕ) → mem s x ≡ (ltb x n && inRow low high x a)) → Inserted s a r → Rising n a low high r
+column-rising n a low high s r h is with-a x =
+    with-a x
+    ∙ rw (is x)
+    (by-bool (eqb x a)
+    (λ (e : eqb x a ≡ true). rw (e, eqb-true x a e, lt-ltb a n h))
+    (λ (e : eqb x a ≡ false). rw e))
+
+pub rising-below : (n a : ℕ) (low high : List ℕ) (r : NodeSet) → Rising n a low high r → (x : ℕ) → mem r x ≡ true → x < n
+rising-below n a low high r rises x t =
+    ltb-true x n (and-both (ltb x n) (eqb x a || inRow low high x a) (sym (rises x) ∙ t) .0)
+
+-- the members one by one: those that are no longer left are done
+
+abbrev pub done : NodeSet → NodeSet → ℕ → Bool
+done set left u = mem set u && not (mem left u)
+
+done-none : (set : NodeSet) (u : ℕ) → done set set u ≡ false
+done-none set u = by-bool (mem set u) (λ t. rw t) (λ t. rw t)
+
+done-all : (set left : NodeSet) → Small set → ((u : ℕ) → u < 128 → mem left u ≡ false) → (u : ℕ) → done set left u ≡ mem set u
+done-all set left small none u = by-bool (mem set u) (λ t. rw (t, none u (small u t))) (λ t. rw t)
+
+pub left-stays : (r : ℕ) (set left rest : NodeSet) → ((v : ℕ) → mem left v ≡ true → mem set v ≡ true) → Removed left r rest → (v : ℕ) → mem rest v ≡ true → mem set v ≡ true
+left-stays r set left rest within is v t = within v (removed-member left r rest is v t .0)
+
+-- rows joined one by one
+
+pub joined-none : (set : NodeSet) (more : ℕ → Bool) (low high : List ℕ) → Joined (done set set) more low high low high
+joined-none set more low high =
     record {
       low-long = refl;
       high-long = refl;
-      row-is = λ u v. rw (le-ltb u 0 (omega arith)) (sym (or-false (inRow low high u v)));
+      row-is = λ u v. rw (done-none set u) (sym (or-false (inRow low high u v)));
     }
 
-module _ (x a r : ℕ) {low high low₁ high₁ : List ℕ} (before : Extended x a r low high low₁ high₁) where
-  -- a row that is not yet reached is as it was
-  later : (v : ℕ) → inRow low₁ high₁ x v ≡ inRow low high x v
-  later v = before .row-is x v ∙ rw (le-ltb x x (omega arith)) (or-false (inRow low high x v))
+pub joined-more : (x : ℕ) (set left rest more row joined : NodeSet) {low high low₁ high₁ low₂ high₂ : List ℕ} → mem set x ≡ true → mem left x ≡ true
+    → IsRow (inRow low₁ high₁) x row → Union row more joined → RowPut x joined low₁ high₁ low₂ high₂ → Removed left x rest
+    → Joined (done set left) (mem more) low high low₁ high₁ → Joined (done set rest) (mem more) low high low₂ high₂
+joined-more x set left rest more row joined {low} {high} {low₁} {high₁} {low₂} {high₂} in-set in-left is-row is-joined put is before =
+    record {
+      low-long = put .low-long ∙ before .low-long;
+      high-long = put .high-long ∙ before .high-long;
+      row-is = λ u v.
+          put .row-is u v
+          ∙ rw (is u)
+          (by-bool (eqb u x)
+          (λ (e : eqb u x ≡ true).
+          rw (e, eqb-true u x e, is-joined v, is-row v, before .row-is x v, in-set, in-left, or-false (inRow low high x v)))
+          (λ (e : eqb u x ≡ false). rw e (before .row-is u v)));
+    }
 
-  pub extended-more : {low₂ high₂ : List ℕ} (extra : NodeSet) → ((v : ℕ) → mem extra v ≡ (eqb v r || inRow low high r v)) → RowExtended a x extra low₁ high₁ low₂ high₂
-      → Extended (x + 1) a r low high low₂ high₂
-  extended-more {low₂} {high₂} extra is step =
-      record {
-        low-long = step .low-long ∙ before .low-long;
-        high-long = step .high-long ∙ before .high-long;
-        row-is = λ u v.
-            step .row-is u v
-            ∙ by-bool (eqb u x)
-            (λ (e : eqb u x ≡ true).
-            let q : u ≡ x = eqb-true u x e in
-            rw (e, q, later v, later a, is v, lt-ltb x (x + 1) (omega arith)))
-            (λ (e : eqb u x ≡ false).
-            let other : u ≡ x → ⊥ = eqb-false u x e in
-            rw (e, or-false (inRow low₁ high₁ u v)) (before .row-is u v ∙ rw (further u other)));
-      }
-    where
-      further : (u : ℕ) → (u ≡ x → ⊥) → ltb u x ≡ ltb u (x + 1)
-      further u other =
-          by-bool (ltb u x)
-          (λ (e : ltb u x ≡ true). e ∙ sym (lt-ltb u (x + 1) (omega (arith, ltb-true u x e))))
-          (λ (e : ltb u x ≡ false). e ∙ sym (le-ltb u (x + 1) (omega (arith, ltb-false u x e))))
+pub joined-all : (set left : NodeSet) (more : ℕ → Bool) {low high low′ high′ : List ℕ} → Small set → ((x : ℕ) → x < 128 → mem left x ≡ false)
+    → Joined (done set left) more low high low′ high′ → Joined (mem set) more low high low′ high′
+joined-all set left more small none h =
+    record {
+      low-long = h .low-long;
+      high-long = h .high-long;
+      row-is = λ u v. h .row-is u v ∙ rw (done-all set left small none u);
+    }
+
+-- an edge: the rows that rise to a, joined with r and its row
+pub joined-extended : (n a r : ℕ) (over more row : NodeSet) {low high low′ high′ : List ℕ} → Rising n a low high over
+    → IsRow (inRow low high) r row → Inserted row r more → Joined (mem over) (mem more) low high low′ high′ → Extended n a r low high low′ high′
+joined-extended n a r over more row rises is-row with-r h =
+    record {
+      low-long = h .low-long;
+      high-long = h .high-long;
+      row-is = λ u v. h .row-is u v ∙ rw (rises u, with-r v, is-row v);
+    }
 
 -- edges one after the other
 
@@ -156,18 +196,6 @@ extended-adds n a r ha x =
         (law .1, law .0)
 
 -- one node's link more
-
-below-more-test : (v n : ℕ) → ltb v (n + 1) ≡ (ltb v n || eqb v n)
-below-more-test v n =
-    by-bool (ltb v n)
-    (λ (e : ltb v n ≡ true). rw (e, lt-ltb v (n + 1) (omega (arith, ltb-true v n e))))
-    (λ (e : ltb v n ≡ false).
-    rw e
-    (by-bool (eqb v n)
-    (λ (i : eqb v n ≡ true). rw (i, lt-ltb v (n + 1) (omega (arith, eqb-true v n i))))
-    (λ (i : eqb v n ≡ false).
-    let other : v ≡ n → ⊥ = eqb-false v n i in
-    rw (i, le-ltb v (n + 1) (omega (arith, ltb-false v n e))))))
 
 pub link-none : (links : List ℕ) (u v : ℕ) → linkIn 0 links u v ≡ false
 link-none links u v = rw (le-ltb v 0 (omega arith))
@@ -224,14 +252,13 @@ head-more l low high row is u v =
 pub head-from : (n l : ℕ) (low high : List ℕ) → l ≤ n → (u v : ℕ) → headIn l low high u v ≡ true → u < n
 head-from n l low high h u v t = omega (arith, ltb-true u l (and-both (ltb u l) (inRow low high u v) t .0))
 
--- the members of a row one by one: those that are no longer left are passed
+-- the edges to the members of a row one by one
 
 abbrev pub passed : ℕ → NodeSet → NodeSet → ℕ → ℕ → Bool
-passed l row left u v = eqb u l && (mem row v && not (mem left v))
+passed l row left u v = eqb u l && done row left v
 
 pub passed-none : (l : ℕ) (row : NodeSet) (u v : ℕ) → passed l row row u v ≡ false
-passed-none l row u v =
-    by-bool (mem row v) (λ t. rw t (and-false (eqb u l))) (λ t. rw t (and-false (eqb u l)))
+passed-none l row u v = rw (done-none row v) (and-false (eqb u l))
 
 pub passed-more : (l r : ℕ) (row left rest : NodeSet) → mem left r ≡ true → mem row r ≡ true → Removed left r rest → (u v : ℕ)
     → (passed l row left u v || (eqb u l && eqb v r)) ≡ passed l row rest u v
@@ -244,44 +271,8 @@ passed-more l r row left rest in-left in-row is u v =
     (λ (e : eqb v r ≡ false).
     rw e (by-bool (eqb u l) (λ i. rw i (or-false (mem row v && not (mem left v)))) (λ i. rw i))))
 
-pub passed-all : (l : ℕ) (row left : NodeSet) → row .high < 2 ^ 64 → any 128 (mem left) ≡ false → (u v : ℕ) → passed l row left u v ≡ headOf l row u v
-passed-all l row left sized done u v =
-    by-bool (ltb v 128)
-    (λ (e : ltb v 128 ≡ true). rw (any-false 128 (mem left) done v (ltb-true v 128 e), and-true (mem row v)))
-    (λ (e : ltb v 128 ≡ false). rw (member-beyond (row .low) (row .high) v sized (ltb-false v 128 e)))
+pub passed-all : (l : ℕ) (row left : NodeSet) → Small row → ((v : ℕ) → v < 128 → mem left v ≡ false) → (u v : ℕ) → passed l row left u v ≡ headOf l row u v
+passed-all l row left small none u v = rw (done-all row left small none v)
 
 pub passed-from : (n l : ℕ) (row left : NodeSet) → l < n → (u v : ℕ) → passed l row left u v ≡ true → u < n
-passed-from n l row left h u v t = omega (arith, eqb-true u l (and-both (eqb u l) (mem row v && not (mem left v)) t .0))
-
-pub left-stays : (r : ℕ) (row left rest : NodeSet) → ((v : ℕ) → mem left v ≡ true → mem row v ≡ true) → Removed left r rest → (v : ℕ) → mem rest v ≡ true → mem row v ≡ true
-left-stays r row left rest within is v t = within v (and-both (not (eqb v r)) (mem left v) (sym (is v) ∙ t) .1)
-
--- what the test of emptiness says
-pub some-left : {b : Bool} (left : NodeSet) → b ≡ not (any 128 (mem left)) → not b ≡ true → any 128 (mem left) ≡ true
-some-left {b} left is t = not-false (any 128 (mem left)) (sym is ∙ not-true b t)
-
-pub none-left : {b : Bool} (left : NodeSet) → b ≡ not (any 128 (mem left)) → not b ≡ false → any 128 (mem left) ≡ false
-none-left {b} left is t = not-true (any 128 (mem left)) (sym is ∙ not-false b t)
-
-pub lowest-there : (left : NodeSet) → any 128 (mem left) ≡ true → (least 128 (mem left) < 128) × (mem left (least 128 (mem left)) ≡ true)
-lowest-there left some =
-    let x = any-found 128 (mem left) some in
-    let below : least 128 (mem left) < 128 = omega (arith, x .1, least-at 128 (mem left) (x .0) (x .1) (x .2)) in
-    (below, least-holds 128 (mem left) below)
-
-pub lowest-rises : (left rest : NodeSet) → any 128 (mem left) ≡ true → Removed left (least 128 (mem left)) rest → 128 - least 128 (mem rest) < 128 - least 128 (mem left)
-lowest-rises left rest some is =
-    let m = least 128 (mem left) in
-    let k = least 128 (mem rest) in
-    let below : m < 128 = lowest-there left some .0 in
-    by-bool (ltb m k)
-    (λ (e : ltb m k ≡ true). omega (arith, ltb-true m k e))
-    (λ (e : ltb m k ≡ false).
-    let less : k ≤ m = ltb-false m k e in
-    let held = least-holds 128 (mem rest) (omega arith) in
-    let both = and-both (not (eqb k m)) (mem left k) (sym (is k) ∙ held) in
-    by-bool (eqb k m)
-    (λ (i : eqb k m ≡ true). absurd (differ (rw i at (both .0))))
-    (λ (i : eqb k m ≡ false).
-    let other : k ≡ m → ⊥ = eqb-false k m i in
-    absurd (differ (sym (least-below 128 (mem left) k (omega arith)) ∙ both .1))))
+passed-from n l row left h u v t = omega (arith, eqb-true u l (and-both (eqb u l) (done row left v) t .0))

@@ -11,12 +11,11 @@ use borrow.Author.Tests.{lt-ltb}
 use Rattle.finite.specs.Below.{any}
 use Rattle.finite.proofs.Laws.{by-bool, and-both, and-intro, any-at, any-found}
 use Rattle.graph.specs.Graph.{Graph, Descent, Path, one, more}
-use Rattle.graph.specs.Order.{adding}
 use Rattle.graph.specs.Placing.{Below}
 use Rattle.finite.proofs.Laws.{not-holding, test-ext}
 use Rattle.paths.proofs.Shape.{Shaped}
-use Rattle.paths.proofs.Closure.{Adding, path-map, adding-closure, graph-edge-added}
-use Rattle.paths.proofs.Table.{descends, under, acyclic, or-holds, and-holds, eqb-holds, descends-iff, under-iff, acyclic-iff, descent-within, below-within, graph-edge-within}
+use Rattle.paths.proofs.Closure.{Adding, path-map, adding-closure}
+use Rattle.paths.proofs.Table.{descends, under, acyclic, or-holds, and-holds, eqb-holds, descends-iff, under-iff, acyclic-iff, descent-within, below-within}
 use Rattle.rows.specs.Rows.{inRow, Rows}
 use Rattle.descent.specs.Closing.{Extended}
 
@@ -118,13 +117,6 @@ module _ {low high : List ℕ} (g : Graph) (s : Shaped g) (h : Rows (Descent g) 
     where
       false-true : false ≡ true → ⊥
       false-true e = let z : _≡_ {A = ℕ} 0 1 = cc in omega arith
-
-  -- Rule 3's step: the rows of the graph with a dominance edge more
-  pub adding-rows : (a r : ℕ) {low′ high′ : List ℕ} → a < g .nodes → Extended (g .nodes) a r low high low′ high′ → Rows (Descent (adding g a r)) low′ high′
-  adding-rows a r ha x =
-      rows-map
-      (path-iff (λ u v. let e = graph-edge-added g a r u v in (e .1, e .0)))
-      (extended-rows _ (g .nodes) a r (λ u v e. graph-edge-within g s u v e .0) ha h x)
 
 -- a placing
 

@@ -11,11 +11,15 @@ use Rattle.nodeset.specs.declared.NodeSet.{NodeSet}
 use Rattle.graph.specs.Graph.{Path, none}
 use Rattle.rows.specs.Rows.{inRow, Rows}
 
--- Row x was joined with `more` where x is a or has a; every other row is as it was.
-pub record RowExtended (a x : ℕ) (more : NodeSet) (low high low′ high′ : List ℕ) : Type 0 where
+-- a and the nodes below n whose rows have a
+abbrev pub Rising : ℕ → ℕ → List ℕ → List ℕ → NodeSet → Type 0
+Rising n a low high r = (x : ℕ) → mem r x ≡ (ltb x n && (eqb x a || inRow low high x a))
+
+-- Each row that `over` holds of was joined with what `more` holds of; every other row is as it was.
+pub record Joined (over more : ℕ → Bool) (low high low′ high′ : List ℕ) : Type 0 where
   pub low-long : length low′ ≡ length low
   pub high-long : length high′ ≡ length high
-  pub row-is : (u v : ℕ) → inRow low′ high′ u v ≡ (inRow low high u v || (eqb u x && (eqb u a || inRow low high u a)) && mem more v)
+  pub row-is : (u v : ℕ) → inRow low′ high′ u v ≡ (inRow low high u v || over u && more v)
 
 -- Each row below n that is a's or has a was joined with r and row r; every other row is as it was.
 pub record Extended (n a r : ℕ) (low high low′ high′ : List ℕ) : Type 0 where

@@ -1,20 +1,25 @@
 // The closure of a graph's or a placing's edges as rows: of each node the set of nodes under it, in two lent slices of
-// 128 words. An edge is added to closed rows in one pass over them.
+// 128 words. An edge is added to closed rows, of which there may be more, in one pass over one column of them and one
+// over the rows that it extends.
 use nodeset::NodeSet;
 use rows::in_row;
+use rows::put_at;
 use rows::row;
+use rows::set_at;
 use sheet::NONE;
 ghost use mathlib.Core.Path.{_≡_};
-ghost use mathlib.Core.Bool.{true, false};
+ghost use mathlib.Core.Bool.{true, false, _&&_};
 ghost use mathlib.Core.List.{List};
 ghost use Prim.Native.Nat.{ℕ, _≤_, _<_};
-ghost use lib.ListN.{take};
+ghost use lib.Dec.{ltb};
+ghost use lib.ListN.{length, getD, take};
 ghost use Rattle.finite.specs.Below.{any};
+ghost use Rattle.nodeset.specs.Set.{bit, mem};
 ghost use Rattle.graph.specs.Graph.{Graph, Descent, none};
 ghost use Rattle.graph.specs.Placing.{placing as placingOf, Below};
 ghost use Rattle.sheet.specs.Judge.{Parents};
 ghost use Rattle.rows.specs.Rows.{Long, inRow, Rows, Tables};
-ghost use Rattle.descent.specs.Closing.{Extended, RowExtended, Links, linkTo, linkIn, headOf, headIn, Adds};
+ghost use Rattle.descent.specs.Closing.{Rising, Joined, Extended, Links, linkTo, linkIn, headOf, headIn, Adds};
 
 // Some node below n lies under itself.
 pub fn cyclic(low: &[u64], high: &[u64], n: usize) -> bool
@@ -29,28 +34,60 @@ pub fn cyclic(low: &[u64], high: &[u64], n: usize) -> bool
     false
 }
 
-// Row x with `more` joined in, where x is a or has a under it.
-fn extend(low: &mut [u64], high: &mut [u64], a: usize, x: usize, more: NodeSet)
-    requires { ⌜ Long (now low) (now high) × (a < 128) × (x < 128) ⌝ }
-    ensures { λ _. ⌜ RowExtended a x more (now (low .entry)) (now (high .entry)) (now (low .exit)) (now (high .exit)) ⌝ }
+// The rows of the first n that have bit k.
+fn column(words: &[u64], n: usize, k: usize) -> NodeSet
+    requires { ⌜ (n ≤ length (now words)) × (n ≤ 128) × (k < 64) ⌝ }
+    ensures { λ r. ⌜ ((x : ℕ) → mem r x ≡ (ltb x n && bit (getD (now (words .entry)) x 0) k)) ⌝ }
 {
-    let old = row(low, high, x);
-    if old.with(x).has(a) {
-        let joined = old.union(more);
-        low[x] = joined.low;
-        high[x] = joined.high;
+    let mut set = NodeSet::empty();
+    for x in 0..n {
+        if (words[x] >> k) % 2 == 1 {
+            set = set.with(x);
+        }
+    }
+    set
+}
+
+// a, and the nodes whose rows have a.
+fn rising(low: &[u64], high: &[u64], n: usize, a: usize) -> NodeSet
+    requires { ⌜ (n ≤ length (now low)) × (n ≤ length (now high)) × (n ≤ 128) × (a < n) ⌝ }
+    ensures { λ r. ⌜ Rising n a (now (low .entry)) (now (high .entry)) r ⌝ }
+{
+    if a < 64 {
+        column(low, n, a).with(a)
+    } else {
+        column(high, n, a - 64).with(a)
     }
 }
 
-// The edge from a to r, added to closed rows. Row r is taken before any row changes, so cycles do no harm.
-pub fn add_edge(low: &mut [u64], high: &mut [u64], n: usize, a: usize, r: usize)
-    requires { ⌜ Long (now low) (now high) × (n ≤ 128) × (a < n) × (r < 128) ⌝ }
-    ensures { λ _. ⌜ Extended n a r (now (low .entry)) (now (high .entry)) (now (low .exit)) (now (high .exit)) ⌝ }
+// `more`, joined into the row of each member of the set.
+fn join(low: &mut [u64], high: &mut [u64], set: NodeSet, more: NodeSet)
+    requires { ⌜ ((x : ℕ) → mem set x ≡ true → (x < length (now low)) × (x < length (now high))) ⌝ }
+    ensures { λ _. ⌜ Joined (mem set) (mem more) (now (low .entry)) (now (high .entry)) (now (low .exit)) (now (high .exit)) ⌝ }
 {
-    let more = row(low, high, r).with(r);
-    for x in 0..n {
-        extend(low, high, a, x, more);
+    let mut left = set;
+    while !left.is_empty() {
+        let x = left.lowest();
+        let joined = set_at(low, high, x).union(more);
+        put_at(low, high, x, joined);
+        left = left.without(x);
     }
+}
+
+// The edge from a to r, added to closed rows; the nodes whose rows it adds to. Row r is taken before any row changes, so
+// cycles do no harm.
+pub fn add_edge(low: &mut [u64], high: &mut [u64], n: usize, a: usize, r: usize) -> NodeSet
+    requires { ⌜
+        (n ≤ length (now low)) × (n ≤ length (now high)) × (n ≤ 128) × (a < n) × (r < length (now low)) ×
+        (r < length (now high)) × (r < 128)
+        ⌝ }
+    ensures { λ _. ⌜ Extended n a r (now (low .entry)) (now (high .entry)) (now (low .exit)) (now (high .exit)) ⌝ }
+    ensures { λ over. ⌜ Rising n a (now (low .entry)) (now (high .entry)) over ⌝ }
+{
+    let more = set_at(low, high, r).with(r);
+    let over = rising(low, high, n, a);
+    join(low, high, over, more);
+    over
 }
 
 fn clear(low: &mut [u64], high: &mut [u64])

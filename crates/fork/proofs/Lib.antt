@@ -1,5 +1,6 @@
 pub mod Trees
 pub mod Tops
 pub mod Staying
-pub mod Forks
-pub mod Hanging
+pub mod Choices
+pub mod Settling
+pub mod Tables

@@ -133,7 +133,3 @@ heads-row roots low high l row set r is-row is-set tops =
           tops .exact closed v
           ∙ top-ext (mem set) (λ x. inRow low high l x && mem roots x) low high v (λ x. is-set x ∙ rw (is-row x));
     }
-
-pub no-head : (roots : NodeSet) (low high : List ℕ) (l v : ℕ) → inRow low high l v ≡ false → headOf roots low high l v ≡ false
-unfolding headOf topIn
-no-head roots low high l v e = rw e

@@ -1,6 +1,6 @@
--- The leaves and roots of the trees that a table of parents holds, and that they stay when an edge is added.
+-- The leaves and roots of the trees that a table of parents holds.
 use Prim.Native.Nat.{ℕ, _<_}
-use mathlib.Core.Path.{_≡_, sym, _∙_}
+use mathlib.Core.Path.{_≡_, _∙_}
 use mathlib.Core.List.{List}
 use mathlib.Core.Bool.{true, false}
 use native.Mathlib.Omega.{arith}
@@ -10,13 +10,11 @@ use Rattle.finite.proofs.Laws.{by-bool}
 use Rattle.nodeset.specs.Set.{mem, Difference}
 use Rattle.nodeset.specs.declared.NodeSet.{NodeSet}
 use Rattle.graph.specs.Graph.{Graph, leaf}
-use Rattle.graph.specs.Order.{adding}
 use Rattle.paths.proofs.Shape.{Shaped}
-use Rattle.paths.proofs.Fragments.{root-adding, leaf-adding}
 use Rattle.sheet.specs.Judge.{InnerSet, RootSet}
 use Rattle.trees.specs.Trees.{TreeOf}
 use Rattle.trees.proofs.Held.{few, inner-is, roots-are}
-use Rattle.fork.specs.Given.{Ends}
+use Rattle.fork.specs.Reduced.{Ends}
 
 module _ (g : Graph) (s : Shaped g) (n : ℕ) (parents : List ℕ) (t : TreeOf g n parents) where
   -- the nodes that are no node's parent
@@ -33,12 +31,3 @@ module _ (g : Graph) (s : Shaped g) (n : ℕ) (parents : List ℕ) (t : TreeOf g
 
   pub ends-of : (leaves roots : NodeSet) → ((v : ℕ) → mem leaves v ≡ leaf g v) → RootSet n parents roots → Ends g n leaves roots
   ends-of leaves roots are is = record { nodes = t .nodes; leaves-are = are; roots-are = roots-are s t roots is }
-
-pub ends-adding : (g : Graph) (n : ℕ) (leaves roots : NodeSet) (l r : ℕ) → Ends g n leaves roots → Ends (adding g l r) n leaves roots
-unfolding adding
-ends-adding g n leaves roots l r e =
-    record {
-      nodes = e .nodes;
-      leaves-are = λ v. e .leaves-are v ∙ sym (leaf-adding g l r v);
-      roots-are = λ v. e .roots-are v ∙ sym (root-adding g l r v);
-    }

@@ -1,3 +1,3 @@
-pub mod Given
+pub mod Reduced
 pub mod Staying
 pub mod Chosen

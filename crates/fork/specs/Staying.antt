@@ -20,11 +20,6 @@ unfoldable pub headOf : NodeSet → List ℕ → List ℕ → ℕ → ℕ → Bo
 unfolding topIn
 headOf roots low high l v = topIn (λ x. inRow low high l x && mem roots x) low high v
 
--- an edge from the leaf l to the root v stays
-unfoldable pub stays : NodeSet → NodeSet → List ℕ → List ℕ → ℕ → ℕ → Bool
-unfolding headOf
-stays leaves roots low high l v = mem leaves l && headOf roots low high l v
-
 pub record Tops (set : NodeSet) (low high : List ℕ) (r : NodeSet) : Type 0 where
   pub of-set : (v : ℕ) → mem r v ≡ true → mem set v ≡ true
   pub exact : Closed low high → (v : ℕ) → mem r v ≡ topIn (mem set) low high v

@@ -1,11 +1,9 @@
 // Rule 2: the roots that a leaf's edges go to, those that are redundant left out.
 use nodeset::NodeSet;
-use rows::in_row;
 use rows::row;
-ghost use mathlib.Core.Path.{_≡_};
 ghost use Prim.Native.Nat.{_<_};
 ghost use Rattle.rows.specs.Rows.{Long};
-ghost use Rattle.fork.specs.Staying.{Closed, Tops, headOf, Heads};
+ghost use Rattle.fork.specs.Staying.{Tops, Heads};
 
 // The members of the set that are in no member's row. In closed rows a member that is in a row already read has nothing
 // new in its own, and is passed over.
@@ -30,16 +28,4 @@ pub fn heads(low: &[u64], high: &[u64], roots: NodeSet, l: usize) -> NodeSet
     ensures { λ r. ⌜ Heads roots (now (low .entry)) (now (high .entry)) l r ⌝ }
 {
     tops(low, high, row(low, high, l).intersection(roots))
-}
-
-// v is one of them. Few rows have v, and only of these the heads are worked out.
-pub fn is_head(low: &[u64], high: &[u64], roots: NodeSet, l: usize, v: usize) -> bool
-    requires { ⌜ Long (now low) (now high) × (l < 128) × (v < 128) ⌝ }
-    ensures { λ r. ⌜ (Closed (now (low .entry)) (now (high .entry)) → r ≡ headOf roots (now (low .entry)) (now (high .entry)) l v) ⌝ }
-{
-    if in_row(low, high, l, v) {
-        heads(low, high, roots, l).has(v)
-    } else {
-        false
-    }
 }

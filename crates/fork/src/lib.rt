@@ -1,5 +1,7 @@
-// Rule 2 and the choice of Rule 3, read off the rows of the closed descent relation.
+// A graph's reduced form, kept in tables: Rule 2, the choice of Rule 3, and the placing where no choice is left.
 pub mod choose;
 pub mod ends;
+mod forks;
 mod heads;
+pub mod reduced;
 pub mod settle;

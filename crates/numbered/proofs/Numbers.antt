@@ -8,23 +8,20 @@ use native.Mathlib.Omega.{arith}
 use lib.ListN.{length, take, drop, take-append-drop}
 use denote.Enum.Declared.{tagOf}
 use borrow.Author.Tests.{le-leb, lt-leb}
-use Rattle.nodeset.specs.Set.{mem}
 use Rattle.nodeset.specs.declared.NodeSet.{NodeSet}
 use Rattle.graph.specs.Graph.{Graph}
 use Rattle.graph.specs.Order.{entry, limit, countAnswer}
 use Rattle.graph.specs.declared.Count.the-variants.{Exactly, More}
-use Rattle.layout.proofs.Spelling.{root-below}
-use Rattle.listing.proofs.Choosing.{Unforked}
 use Rattle.listing.proofs.Readings.{listed}
 use Rattle.listing.proofs.Settled.{settled}
-use Rattle.fork.specs.Given.{Given}
+use Rattle.fork.specs.Reduced.{Given}
 use Rattle.walking.proofs.States.{at-below}
-use Rattle.walk.specs.Given.{Sheet}
-use Rattle.walk.specs.States.{Stands}
+use Rattle.halves.specs.Given.{Sheet}
+use Rattle.halves.specs.States.{Stands}
 use Rattle.walk.specs.Moves.{Moves}
 use Rattle.walk.specs.declared.steps.Moved.{Moved}
 use Rattle.walk.specs.declared.steps.Moved.the-variants.{To, End}
-use Rattle.walk.proofs.Walks.{stands-entry}
+use Rattle.halves.proofs.Walks.{stands-entry}
 use Rattle.numbered.specs.Numbered.{Reaches, Finds}
 use Rattle.numbered.specs.declared.Reached.{Reached}
 use Rattle.numbered.specs.declared.Reached.the-variants.{At, Only}
@@ -64,7 +61,7 @@ module _ {n : ℕ} {parents owners : List ℕ} {leaves roots : NodeSet} {base-lo
       record { found = λ t. absurd (true≢false (sym t)); fewer = λ t. (omega (arith, y .0, y .1), refl) }
 
   pub found : {depth : ℕ} → 1 ≤ k → r ≡ At depth → (old new : List ℕ) → drop n new ≡ drop n old
-      → ((g : Graph) → Given g n leaves roots low high → Unforked g → take n new ≡ settled g) → Finds (s .graph) k old true new
+      → ((g : Graph) → Given g n low high → take n new ≡ settled g) → Finds (s .graph) k old true new
   found {depth} one e old new rest wrote =
       let y : Stands (s .graph) uppers lowers low high depth (k - 1) = rw e at x in
       let below : k - 1 < length (listed (s .graph)) = at-below (y .at) in
@@ -72,15 +69,10 @@ module _ {n : ℕ} {parents owners : List ℕ} {leaves roots : NodeSet} {base-lo
         found = λ t. (
           omega arith,
           sym (take-append-drop n new)
-              ∙ rw (stands-entry s y new wrote, rest) (ap (λ (m : ℕ). entry (listed (s .graph)) (k - 1) ++ drop m old) (s .fits .owned .nodes)),
+              ∙ rw (stands-entry (s .fits) y new wrote, rest) (ap (λ (m : ℕ). entry (listed (s .graph)) (k - 1) ++ drop m old) (s .fits .owned .nodes)),
         );
         fewer = λ t. absurd (true≢false t);
       }
-
--- what `fork::settle` asks
-pub roots-below : {n : ℕ} {parents owners : List ℕ} {leaves roots : NodeSet} {base-low base-high : List ℕ} → Sheet n parents owners leaves roots base-low base-high
-    → (v : ℕ) → mem roots v ≡ true → v < n
-roots-below s v m = let b = root-below (s .graph) v (sym (s .ends .roots-are v) ∙ m) in omega (arith, b, s .ends .nodes)
 
 -- a walk has room for as many decisions as there are pairs of nodes
 pub room : {n : ℕ} {parents owners : List ℕ} {leaves roots : NodeSet} {base-low base-high : List ℕ} → Sheet n parents owners leaves roots base-low base-high → n * n ≤ 16384

@@ -7,8 +7,8 @@ use lib.ListN.{length, drop}
 use Rattle.graph.specs.Graph.{Graph}
 use Rattle.graph.specs.Order.{entry}
 use Rattle.listing.proofs.Readings.{listed}
-use Rattle.walk.specs.Levels.{Saved}
-use Rattle.walk.specs.States.{Stands}
+use Rattle.halves.specs.Levels.{Saved}
+use Rattle.halves.specs.States.{Stands}
 use Rattle.numbered.specs.declared.Reached.{Reached}
 use Rattle.numbered.specs.declared.Reached.the-variants.{At, Only}
 

@@ -1,8 +1,9 @@
 // The readings of a graph that has some, by their numbers: how many there are, and the one with a number.
+use fork::reduced::WIDE;
 use fork::settle::settle;
 use graph::Count;
+use halves::levels::WORDS;
 use nodeset::NodeSet;
-use walk::levels::WORDS;
 use walk::steps::Moved;
 use walk::steps::first;
 use walk::steps::next;
@@ -11,10 +12,10 @@ ghost use Prim.Native.Nat.{_≤_};
 ghost use lib.ListN.{length};
 ghost use Rattle.graph.specs.Order.{countAnswer};
 ghost use Rattle.listing.proofs.Readings.{listed};
-ghost use Rattle.rows.specs.Rows.{Long};
-ghost use Rattle.walk.specs.Decisions.{Room};
-ghost use Rattle.walk.specs.Given.{Sheet};
-ghost use Rattle.walk.specs.Levels.{Levels};
+ghost use Rattle.fork.specs.Reduced.{Wide};
+ghost use Rattle.halves.specs.Decisions.{Room};
+ghost use Rattle.halves.specs.Given.{Sheet};
+ghost use Rattle.halves.specs.Levels.{Levels};
 ghost use Rattle.numbered.specs.Numbered.{Reaches, SavedAt, Finds};
 
 // The last number that a reading is asked for by.
@@ -47,7 +48,7 @@ pub fn reach(
     k: usize,
 ) -> Reached
     requires { ⌜ Sheet n (now parent) (now owner) leaves roots (now «base_low») (now «base_high») ⌝ }
-    requires { ⌜ Long (now low) (now high) × Room n (now uppers) (now lowers) × (1 ≤ k) × Levels (now «saved_low») (now «saved_high») ⌝ }
+    requires { ⌜ Wide (now low) (now high) × Room n (now uppers) (now lowers) × (1 ≤ k) × Levels (now «saved_low») (now «saved_high») ⌝ }
     ensures { λ r. ⌜
         ((s : Sheet n (now (parent .entry)) (now (owner .entry)) leaves roots (now («base_low» .entry)) (now («base_high» .entry))) →
         Reaches (s .graph) (now (uppers .exit)) (now (lowers .exit)) (now (low .exit)) (now (high .exit)) k r
@@ -76,10 +77,7 @@ pub fn reach(
             parent,
             owner,
             n,
-            leaves,
             roots,
-            base_low,
-            base_high,
             low,
             high,
             saved_low,
@@ -112,8 +110,8 @@ pub fn count(
         r ≡ countAnswer (length (listed (s .graph))))
         ⌝ }
 {
-    let mut low = [0u64; 128];
-    let mut high = [0u64; 128];
+    let mut low = [0u64; WIDE];
+    let mut high = [0u64; WIDE];
     let mut saved_low = [0u64; WORDS];
     let mut saved_high = [0u64; WORDS];
     let mut uppers = [0u8; PAIRS];
@@ -157,8 +155,8 @@ pub fn find(
         Finds (s .graph) k (now (out .entry)) r (now (out .exit)))
         ⌝ }
 {
-    let mut low = [0u64; 128];
-    let mut high = [0u64; 128];
+    let mut low = [0u64; WIDE];
+    let mut high = [0u64; WIDE];
     let mut saved_low = [0u64; WORDS];
     let mut saved_high = [0u64; WORDS];
     let mut uppers = [0u8; PAIRS];
@@ -181,7 +179,7 @@ pub fn find(
     ) {
         Reached::Only(_) => false,
         Reached::At(_) => {
-            settle(&low, &high, n, leaves, roots, out);
+            settle(&low, &high, n, out);
             true
         }
     }

@@ -17,19 +17,19 @@ use Rattle.graph.specs.Graph.{Graph, root, none}
 use Rattle.graph.specs.Placing.{at}
 use Rattle.graph.specs.Order.{entry, limit, countAnswer}
 use Rattle.graph.specs.Text.{decimal, line, countLine, readingLine, numbered, printed}
-use Rattle.listing.proofs.Choosing.{Unforked}
 use Rattle.listing.proofs.Readings.{listed}
 use Rattle.listing.proofs.Settled.{settled}
-use Rattle.fork.specs.Given.{Given}
+use Rattle.fork.specs.Reduced.{RootsAre, Given}
 use Rattle.text.specs.Lines.{lineIn}
 use Rattle.text.proofs.Lines.{line-is}
 use Rattle.walking.specs.Walk.{Decision, graphAt}
 use Rattle.walking.proofs.Decisions.{graph-nodes, graph-root}
 use Rattle.walking.proofs.States.{at-below, at-entry}
-use Rattle.walk.specs.Decisions.{decisions}
-use Rattle.walk.specs.Given.{Sheet}
-use Rattle.walk.specs.States.{Stands}
-use Rattle.walk.proofs.Walks.{stands-given}
+use Rattle.halves.specs.Decisions.{decisions}
+use Rattle.halves.specs.Given.{Fits}
+use Rattle.halves.specs.States.{Stands}
+use Rattle.halves.proofs.Fitting.{fits-at}
+use Rattle.halves.proofs.Walks.{stands-given}
 use Rattle.numbered.specs.Numbered.{joined}
 use Rattle.pages.specs.Pages.{linesTo}
 
@@ -67,15 +67,14 @@ written-to old from bs new end h w =
     ap (take end) (w .stored ∙ sets-eq bs old from h)
     ∙ take-at (take from old ++ bs) (drop (from + length bs) old) end (length-append (take from old) bs ∙ omega (arith, w .after, length-take from old))
 
-module _ {n : ℕ} {parents owners : List ℕ} {leaves roots : NodeSet} {base-low base-high : List ℕ} (s : Sheet n parents owners leaves roots base-low base-high)
-    {uppers lowers low high : List ℕ} {depth last : ℕ} (x : Stands (s .graph) uppers lowers low high depth last) where
+module _ {g : Graph} {n : ℕ} {parents owners : List ℕ} {roots : NodeSet} (f : Fits g n parents owners roots) {uppers lowers low high : List ℕ} {depth last : ℕ} (x : Stands g uppers lowers low high depth last) where
   pub line-written : (passed : ℕ) (old : List ℕ) (from : ℕ) (new : List ℕ) (end : ℕ) → end ≤ length old
-      → ((g : Graph) → Given g n leaves roots low high → Unforked g → Written old from (readingLine g (last + 1) (settled g)) new end)
-      → linesTo (s .graph) passed ++ take from old ≡ linesTo (s .graph) last → linesTo (s .graph) passed ++ take end new ≡ linesTo (s .graph) (last + 1)
+      → ((h : Graph) → RootsAre h n roots → Given h n low high → Written old from (readingLine h (last + 1) (settled h)) new end)
+      → linesTo g passed ++ take from old ≡ linesTo g last → linesTo g passed ++ take end new ≡ linesTo g (last + 1)
   line-written passed old from new end h wrote before =
-      let g : Graph = s .graph in
       let ds : List Decision = decisions uppers lowers depth in
-      let w = wrote (graphAt g ds) (stands-given s x) (x .at .unforked) in
+      let o = fits-at n (x .at .valid) parents owners roots f .owned in
+      let w = wrote (graphAt g ds) (record { nodes = o .nodes; are = o .roots-are }) (stands-given f x) in
       let text : readingLine (graphAt g ds) (last + 1) (settled (graphAt g ds)) ≡ readingLine g (last + 1) (entry (listed g) last) =
       line-at g ds (last + 1) (settled (graphAt g ds)) ∙ ap (readingLine g (last + 1)) (sym (at-entry (x .at))) in
       ap (λ (bs : List ℕ). linesTo g passed ++ bs) (written-to old from _ new end (omega (arith, w .after)) w ∙ ap (λ (bs : List ℕ). take from old ++ bs) text)
@@ -83,14 +82,14 @@ module _ {n : ℕ} {parents owners : List ℕ} {leaves roots : NodeSet} {base-lo
       ∙ ap (λ (bs : List ℕ). bs ++ readingLine g (last + 1) (entry (listed g) last)) before
       ∙ sym (lines-more g last (at-below (x .at)))
 
-  pub stands-below : last < length (listed (s .graph))
+  pub stands-below : last < length (listed g)
   stands-below = at-below (x .at)
 
 -- the line read off the placing that was settled
-pub settled-line : {n : ℕ} {leaves roots : NodeSet} {low high : List ℕ} (g : Graph) → Given g n leaves roots low high → (k : ℕ) (p old : List ℕ) (from : ℕ) (new : List ℕ) (end : ℕ)
+pub settled-line : {n : ℕ} {roots : NodeSet} (g : Graph) → RootsAre g n roots → (k : ℕ) (p old : List ℕ) (from : ℕ) (new : List ℕ) (end : ℕ)
     → take n p ≡ settled g → Written old from (lineIn n roots p k) new end → Written old from (readingLine g k (settled g)) new end
-settled-line {n} {leaves} {roots} g x k p old from new end is w =
-    subst (λ (bs : List ℕ). Written old from bs new end) (line-is roots n p k g (x .ends .nodes) (x .ends .roots-are) ∙ ap (readingLine g k) is) w
+settled-line {n} {roots} g x k p old from new end is w =
+    subst (λ (bs : List ℕ). Written old from bs new end) (line-is roots n p k g (x .nodes) (x .are) ∙ ap (readingLine g k) is) w
 
 take-reach : (ps : List (List ℕ)) (k : ℕ) → take k ps ≡ take (min (length ps) k) ps
 take-reach ps k =

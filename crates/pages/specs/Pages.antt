@@ -8,7 +8,7 @@ use Rattle.graph.specs.Graph.{Graph}
 use Rattle.graph.specs.Order.{limit}
 use Rattle.graph.specs.Text.{numbered}
 use Rattle.listing.proofs.Readings.{listed}
-use Rattle.walk.specs.States.{Stands}
+use Rattle.halves.specs.States.{Stands}
 use Rattle.numbered.specs.Numbered.{joined}
 use Rattle.pages.specs.declared.Page.{Page}
 

@@ -9,21 +9,19 @@ use walk::steps::Moved;
 use walk::steps::next;
 ghost use mathlib.Core.Path.{_≡_};
 ghost use mathlib.Core.Bool.{true};
-ghost use Prim.Native.Nat.{ℕ, _+_, _≤_, _<_};
+ghost use Prim.Native.Nat.{_+_, _≤_, _<_};
 ghost use lib.ListN.{length};
 ghost use Rattle.finite.specs.Stores.{Written};
-ghost use Rattle.nodeset.specs.Set.{mem};
 ghost use Rattle.graph.specs.Graph.{Graph};
 ghost use Rattle.graph.specs.Order.{limit};
 ghost use Rattle.graph.specs.Text.{readingLine};
-ghost use Rattle.listing.proofs.Choosing.{Unforked};
 ghost use Rattle.listing.proofs.Settled.{settled};
-ghost use Rattle.rows.specs.Rows.{Long};
-ghost use Rattle.fork.specs.Given.{Given};
-ghost use Rattle.walk.specs.Decisions.{Room};
-ghost use Rattle.walk.specs.Given.{Sheet};
-ghost use Rattle.walk.specs.Levels.{Saved};
-ghost use Rattle.walk.specs.States.{Stands};
+ghost use Rattle.fork.specs.Reduced.{Wide, RootsAre, Given};
+ghost use Rattle.halves.specs.Decisions.{Room};
+ghost use Rattle.halves.specs.Given.{Fits};
+ghost use Rattle.halves.specs.Levels.{Saved};
+ghost use Rattle.halves.specs.States.{Stands};
+ghost use Rattle.walk.specs.States.{Standing};
 ghost use Rattle.pages.specs.Pages.{PageOf};
 
 // How many bytes the page has, the number of its last reading, and, where more follow, the depth of the walk at the next.
@@ -39,21 +37,20 @@ fn line(
     low: &[u64],
     high: &[u64],
     n: usize,
-    leaves: NodeSet,
     roots: NodeSet,
     k: usize,
     out: &mut [u8],
     at: usize,
 ) -> usize
-    requires { ⌜ Long (now low) (now high) × (n ≤ 128) × ((v : ℕ) → mem roots v ≡ true → v < n) × (at + 1100 ≤ length (now out)) ⌝ }
+    requires { ⌜ Wide (now low) (now high) × (n ≤ 128) × (at + 1100 ≤ length (now out)) ⌝ }
     ensures { λ r. ⌜ r ≤ length (now (out .entry)) ⌝ }
     ensures { λ r. ⌜
-        ((g : Graph) → Given g n leaves roots (now (low .entry)) (now (high .entry)) → Unforked g →
+        ((g : Graph) → RootsAre g n roots → Given g n (now (low .entry)) (now (high .entry)) →
         Written (now (out .entry)) at (readingLine g k (settled g)) (now (out .exit)) r)
         ⌝ }
 {
     let mut placing = [0u8; 128];
-    settle(low, high, n, leaves, roots, &mut placing);
+    settle(low, high, n, &mut placing);
     reading_line(&placing, n, roots, k, out, at)
 }
 
@@ -62,10 +59,7 @@ pub fn fill(
     parent: &[u8],
     owner: &[u8],
     n: usize,
-    leaves: NodeSet,
     roots: NodeSet,
-    base_low: &[u64],
-    base_high: &[u64],
     low: &mut [u64],
     high: &mut [u64],
     saved_low: &mut [u64],
@@ -76,19 +70,18 @@ pub fn fill(
     passed: usize,
     out: &mut [u8],
 ) -> Page
-    requires { ⌜ Sheet n (now parent) (now owner) leaves roots (now «base_low») (now «base_high») ⌝ }
-    requires { ⌜ Long (now low) (now high) × Room n (now uppers) (now lowers) × (passed < limit) × (1100 ≤ length (now out)) ⌝ }
     requires { ⌜
-        ((s : Sheet n (now parent) (now owner) leaves roots (now «base_low») (now «base_high»)) →
-        Stands (s .graph) (now uppers) (now lowers) (now low) (now high) depth passed
-        × Saved (s .graph) (now uppers) (now lowers) (now «saved_low») (now «saved_high») depth)
+        Standing n (now parent) (now owner) roots (now uppers) (now lowers) (now low) (now high) (now «saved_low») (now «saved_high») depth passed
         ⌝ }
+    requires { ⌜ Room n (now uppers) (now lowers) × (passed < limit) × (1100 ≤ length (now out)) ⌝ }
     ensures { λ r. ⌜ (r .bytes ≤ length (now (out .exit))) × (passed < r .last) × (r .more ≡ true → r .last < limit) ⌝ }
     ensures { λ r. ⌜
-        ((s : Sheet n (now (parent .entry)) (now (owner .entry)) leaves roots (now («base_low» .entry)) (now («base_high» .entry))) →
-        PageOf (s .graph) (now (uppers .exit)) (now (lowers .exit)) (now (low .exit)) (now (high .exit)) passed (now (out .exit)) r
+        ((g : Graph) → Fits g n (now (parent .entry)) (now (owner .entry)) roots →
+        Stands g (now (uppers .entry)) (now (lowers .entry)) (now (low .entry)) (now (high .entry)) depth passed →
+        Saved g (now (uppers .entry)) (now (lowers .entry)) (now («saved_low» .entry)) (now («saved_high» .entry)) depth →
+        PageOf g (now (uppers .exit)) (now (lowers .exit)) (now (low .exit)) (now (high .exit)) passed (now (out .exit)) r
         × (r .more ≡ true →
-        Saved (s .graph) (now (uppers .exit)) (now (lowers .exit)) (now («saved_low» .exit)) (now («saved_high» .exit)) (r .depth)))
+        Saved g (now (uppers .exit)) (now (lowers .exit)) (now («saved_low» .exit)) (now («saved_high» .exit)) (r .depth)))
         ⌝ }
 {
     let mut at = depth;
@@ -96,7 +89,7 @@ pub fn fill(
     let mut end = 0;
     loop {
         last += 1;
-        end = line(low, high, n, leaves, roots, last, out, end);
+        end = line(low, high, n, roots, last, out, end);
         if last == LAST {
             return Page {
                 bytes: end,
@@ -109,10 +102,7 @@ pub fn fill(
             parent,
             owner,
             n,
-            leaves,
             roots,
-            base_low,
-            base_high,
             low,
             high,
             saved_low,

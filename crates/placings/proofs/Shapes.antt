@@ -22,7 +22,7 @@ use Rattle.paths.proofs.Table.{hangs-parts, below-within}
 use Rattle.paths.proofs.Forests.{acyclic-forest, placing-cases, hanging-solved}
 use Rattle.rows.specs.Rows.{inRow, Rows, Tables}
 use Rattle.descent.specs.Closing.{Links}
-use Rattle.fork.specs.Given.{Ends}
+use Rattle.fork.specs.Reduced.{Ends}
 use Rattle.placings.specs.Tests.{fits, placingIn, outside, downwardIn, carried, again, singleIn}
 
 -- answers of a test that is asked the other way

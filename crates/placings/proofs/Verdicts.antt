@@ -14,7 +14,7 @@ use Rattle.paths.proofs.Shape.{Shaped, well-formed-shaped}
 use Rattle.sheet.specs.Judge.{RootSet}
 use Rattle.rows.specs.Rows.{inRow, Rows, Tables}
 use Rattle.trees.specs.Trees.{TreeOf}
-use Rattle.fork.specs.Given.{Ends}
+use Rattle.fork.specs.Reduced.{Ends}
 use Rattle.fork.proofs.Trees.{ends-of}
 use Rattle.placings.specs.Tests.{placingIn, downwardIn, singleIn}
 use Rattle.placings.specs.Answered.{Answered, Noes}

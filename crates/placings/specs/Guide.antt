@@ -1,4 +1,4 @@
--- Where the guided descent stands: at a graph that the choices so far lead to, with its rows.
+-- Where the guided descent stands: at a graph that the choices so far lead to, with its reduced form.
 use Prim.Native.Nat.{ℕ, _+_, _*_, _<_}
 use mathlib.Core.Path.{_≡_}
 use mathlib.Core.List.{List}
@@ -6,12 +6,12 @@ use mathlib.Core.Logic.{_⊎_}
 use Rattle.nodeset.specs.declared.NodeSet.{NodeSet}
 use Rattle.graph.specs.Graph.{Graph, own}
 use Rattle.graph.specs.Placing.{Below, SolvedForm}
-use Rattle.listing.proofs.Choosing.{Unforked, pairs}
+use Rattle.listing.proofs.Choosing.{pairs}
 use Rattle.listing.proofs.Guided.{Leads}
 use Rattle.listing.proofs.Settled.{settled}
 use Rattle.rows.specs.Rows.{Rows}
 use Rattle.trees.specs.Trees.{TreeOf}
-use Rattle.fork.specs.Given.{Given}
+use Rattle.fork.specs.Reduced.{RootsAre, Given}
 use Rattle.placings.specs.declared.guide.Edge.{Edge}
 
 abbrev pub Bounded : ℕ → Edge → Type 0
@@ -24,11 +24,12 @@ Into g p a b l r = (l ≡ a) × (r ≡ own g b) × Below g p l r
 abbrev pub HalfOf : Graph → List ℕ → ℕ → ℕ → Edge → Type 0
 HalfOf g p a b e = Into g p a b (e .leaf) (e .root) ⊎ Into g p b a (e .leaf) (e .root)
 
--- From g the choices lead to a graph with these rows. With the turns left its descent relation can outgrow all pairs, so
--- they are enough.
-pub record Standing (g : Graph) (p : List ℕ) (n : ℕ) (parents : List ℕ) (leaves roots : NodeSet) (under-low under-high : List ℕ) (turns : ℕ) (low high : List ℕ) : Type 0 where
+-- From g the choices lead to a graph with this reduced form. With the turns left its descent relation can outgrow all
+-- pairs, so they are enough.
+pub record Standing (g : Graph) (p : List ℕ) (n : ℕ) (parents : List ℕ) (roots : NodeSet) (under-low under-high : List ℕ) (turns : ℕ) (low high : List ℕ) : Type 0 where
   pub graph : Graph
-  pub given : Given graph n leaves roots low high
+  pub given : Given graph n low high
+  pub roots-are : RootsAre graph n roots
   pub tree : TreeOf graph n parents
   pub solved : SolvedForm graph p
   pub under : Rows (Below graph p) under-low under-high
@@ -36,8 +37,7 @@ pub record Standing (g : Graph) (p : List ℕ) (n : ℕ) (parents : List ℕ) (l
   pub enough : n * n < turns + pairs graph
 
 -- No choice is left.
-pub record Arrived (g : Graph) (p : List ℕ) (n : ℕ) (leaves roots : NodeSet) (low high : List ℕ) : Type 0 where
+pub record Arrived (g : Graph) (p : List ℕ) (n : ℕ) (low high : List ℕ) : Type 0 where
   pub graph : Graph
-  pub given : Given graph n leaves roots low high
-  pub unforked : Unforked graph
+  pub given : Given graph n low high
   pub leads : Leads g p (settled graph)

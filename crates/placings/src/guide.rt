@@ -1,9 +1,11 @@
 // Is a solved form a reading? From the graph follow at each choice of Rule 3 the half that the solved form is in: it is a
 // reading if the way ends in it.
-use descent::add_edge;
 use descent::graph_rows;
 use fork::choose::Fork;
 use fork::choose::choose;
+use fork::reduced::WIDE;
+use fork::reduced::add;
+use fork::reduced::reduce;
 use fork::settle::settle;
 use nodeset::NodeSet;
 use rows::in_row;
@@ -19,12 +21,11 @@ ghost use Rattle.graph.specs.Graph.{Graph};
 ghost use Rattle.graph.specs.Order.{Choice};
 ghost use Rattle.graph.specs.Placing.{Below, SolvedForm, Reading};
 ghost use Rattle.paths.proofs.Shape.{Shaped};
-ghost use Rattle.listing.proofs.Choosing.{Unforked};
 ghost use Rattle.listing.proofs.Settled.{settled};
 ghost use Rattle.sheet.specs.Judge.{Parents};
 ghost use Rattle.rows.specs.Rows.{Long, Rows, Tables};
 ghost use Rattle.trees.specs.Trees.{TreeOf};
-ghost use Rattle.fork.specs.Given.{Ends, Given};
+ghost use Rattle.fork.specs.Reduced.{Wide, Ends, Given};
 ghost use Rattle.placings.specs.Guide.{HalfOf, Bounded, Standing, Arrived};
 
 // The edge that leads into a half.
@@ -59,27 +60,26 @@ fn half(parent: &[u8], n: usize, under_low: &[u64], under_high: &[u64], a: usize
 fn turn(
     parent: &[u8],
     n: usize,
-    leaves: NodeSet,
     roots: NodeSet,
     under_low: &[u64],
     under_high: &[u64],
     low: &mut [u64],
     high: &mut [u64],
 ) -> bool
-    requires { ⌜ Parents n (now parent) × Long (now «under_low») (now «under_high») × Long (now low) (now high) ⌝ }
+    requires { ⌜ Parents n (now parent) × Long (now «under_low») (now «under_high») × Wide (now low) (now high) × ((v : ℕ) → mem roots v ≡ true → v < n) ⌝ }
     ensures { λ r. ⌜
-        ((g : Graph) (p : List ℕ) (k : ℕ) → Standing g p n (now (parent .entry)) leaves roots (now («under_low» .entry)) (now («under_high» .entry)) k (now (low .entry)) (now (high .entry)) →
-        (r ≡ true → Standing g p n (now (parent .entry)) leaves roots (now («under_low» .entry)) (now («under_high» .entry)) (k - 1) (now (low .exit)) (now (high .exit)))
-        × (r ≡ false → Arrived g p n leaves roots (now (low .exit)) (now (high .exit))))
+        ((g : Graph) (p : List ℕ) (k : ℕ) → Standing g p n (now (parent .entry)) roots (now («under_low» .entry)) (now («under_high» .entry)) k (now (low .entry)) (now (high .entry)) →
+        (r ≡ true → Standing g p n (now (parent .entry)) roots (now («under_low» .entry)) (now («under_high» .entry)) (k - 1) (now (low .exit)) (now (high .exit)))
+        × (r ≡ false → Arrived g p n (now (low .exit)) (now (high .exit))))
         ⌝ }
 {
-    let Fork::At(v, a, b) = choose(low, high, n, leaves, roots) else {
+    let Fork::At(v, a, b) = choose(low, high, n) else {
         return false;
     };
     let next = half(parent, n, under_low, under_high, a, b);
     let leaf = next.leaf;
     let root = next.root;
-    add_edge(low, high, n, leaf, root);
+    add(low, high, n, roots, leaf, root);
     true
 }
 
@@ -97,30 +97,22 @@ fn same(a: &[u8], b: &[u8], n: usize) -> bool
 }
 
 // Where no choice is left: the placing is the one that is reached.
-fn settles(
-    low: &[u64],
-    high: &[u64],
-    n: usize,
-    leaves: NodeSet,
-    roots: NodeSet,
-    placing: &[u8],
-) -> bool
-    requires { ⌜ Long (now low) (now high) × (n ≤ 128) × (n ≤ length (now placing)) × ((v : ℕ) → mem roots v ≡ true → v < n) ⌝ }
+fn settles(low: &[u64], high: &[u64], n: usize, placing: &[u8]) -> bool
+    requires { ⌜ Wide (now low) (now high) × (n ≤ 128) × (n ≤ length (now placing)) ⌝ }
     ensures { λ r. ⌜
-        ((h : Graph) → Given h n leaves roots (now (low .entry)) (now (high .entry)) → Unforked h →
+        ((h : Graph) → Given h n (now (low .entry)) (now (high .entry)) →
         (r ≡ true) ↔ (settled h ≡ take n (now (placing .entry))))
         ⌝ }
 {
     let mut end = [0u8; 128];
-    settle(low, high, n, leaves, roots, &mut end);
+    settle(low, high, n, &mut end);
     same(&end, placing, n)
 }
 
-// From the rows of a graph to the end. Each choice adds a pair to the descent relation, so that n * n are enough.
+// From the reduced form of a graph to the end. Each choice adds a pair to the descent relation, so that n * n are enough.
 fn follow(
     parent: &[u8],
     n: usize,
-    leaves: NodeSet,
     roots: NodeSet,
     under_low: &[u64],
     under_high: &[u64],
@@ -128,17 +120,17 @@ fn follow(
     low: &mut [u64],
     high: &mut [u64],
 ) -> bool
-    requires { ⌜ Parents n (now parent) × Long (now «under_low») (now «under_high») × Long (now low) (now high) ⌝ }
+    requires { ⌜ Parents n (now parent) × Long (now «under_low») (now «under_high») × Wide (now low) (now high) ⌝ }
     requires { ⌜ (n ≤ length (now placing)) × ((v : ℕ) → mem roots v ≡ true → v < n) ⌝ }
     ensures { λ r. ⌜
-        ((g : Graph) → Standing g (take n (now (placing .entry))) n (now (parent .entry)) leaves roots (now («under_low» .entry)) (now («under_high» .entry)) (n * n + 1) (now (low .entry)) (now (high .entry)) →
+        ((g : Graph) → Standing g (take n (now (placing .entry))) n (now (parent .entry)) roots (now («under_low» .entry)) (now («under_high» .entry)) (n * n + 1) (now (low .entry)) (now (high .entry)) →
         Shaped g → SolvedForm g (take n (now (placing .entry))) → (r ≡ true) ↔ Reading g (take n (now (placing .entry))))
         ⌝ }
 {
     let mut left = n * n + 1;
     while 0 < left {
-        if !turn(parent, n, leaves, roots, under_low, under_high, low, high) {
-            return settles(low, high, n, leaves, roots, placing);
+        if !turn(parent, n, roots, under_low, under_high, low, high) {
+            return settles(low, high, n, placing);
         }
         left -= 1;
     }
@@ -165,13 +157,22 @@ pub fn reading(
         SolvedForm g (take n (now (placing .entry))) → (r ≡ true) ↔ Reading g (take n (now (placing .entry))))
         ⌝ }
 {
-    let mut low = [0u64; 128];
-    let mut high = [0u64; 128];
-    graph_rows(parent, heads_low, heads_high, n, &mut low, &mut high);
+    let mut base_low = [0u64; 128];
+    let mut base_high = [0u64; 128];
+    graph_rows(
+        parent,
+        heads_low,
+        heads_high,
+        n,
+        &mut base_low,
+        &mut base_high,
+    );
+    let mut low = [0u64; WIDE];
+    let mut high = [0u64; WIDE];
+    reduce(&base_low, &base_high, n, leaves, roots, &mut low, &mut high);
     follow(
         parent,
         n,
-        leaves,
         roots,
         under_low,
         under_high,

@@ -1,6 +1,8 @@
 // Lists the readings of the sheet on standard input, up to 2,048 bytes, as document 01's "The printed list" has them.
+use fork::reduced::WIDE;
 use graph::Count;
 use graph::Refusal;
+use halves::levels::WORDS;
 use libc::STDOUT_FILENO;
 use nodeset::NodeSet;
 use numbered::LAST;
@@ -12,7 +14,6 @@ use sheet::read::read;
 use start::begin;
 use text::count_line;
 use text::refused_line;
-use walk::levels::WORDS;
 use walk::steps::first;
 ghost use mathlib.Core.Path.{_≡_};
 ghost use mathlib.Core.Bool.{false};
@@ -21,7 +22,7 @@ ghost use lib.ListN.{length};
 ghost use Rattle.graph.specs.Order.{limit, countAnswer};
 ghost use Rattle.listing.proofs.Readings.{listed};
 ghost use Rattle.start.specs.Given.{Given};
-ghost use Rattle.walk.specs.Given.{Sheet};
+ghost use Rattle.halves.specs.Given.{Sheet};
 
 // A page is written at once. A list that fits into one is walked through once.
 const PAGE: usize = 262144;
@@ -115,8 +116,8 @@ fn print_readings(
 )
     requires { ⌜ Sheet n (now parent) (now owner) leaves roots (now «base_low») (now «base_high») ⌝ }
 {
-    let mut low = [0u64; 128];
-    let mut high = [0u64; 128];
+    let mut low = [0u64; WIDE];
+    let mut high = [0u64; WIDE];
     let mut saved_low = [0u64; WORDS];
     let mut saved_high = [0u64; WORDS];
     let mut uppers = [0u8; PAIRS];
@@ -144,10 +145,7 @@ fn print_readings(
             parent,
             owner,
             n,
-            leaves,
             roots,
-            base_low,
-            base_high,
             &mut low,
             &mut high,
             &mut saved_low,

@@ -38,6 +38,7 @@ module _ {n : ℕ} {parents heads-low heads-high : List ℕ} (s : Given n parent
       → Started (s .graph) n parents owners low high r
   started old owners low high r long filled rows test-is leaves-are roots-are =
       let is = test-is (s .graph) shaped tree rows in
+      let ends = ends-of (s .graph) shaped n parents tree (r .leaves) (r .roots) (leaves-are (s .graph) shaped tree) roots-are in
       record {
         solved = λ e.
             record {
@@ -46,8 +47,8 @@ module _ {n : ℕ} {parents heads-low heads-high : List ℕ} (s : Given n parent
                 solvable = is .0 e;
                 parents-table = parents-table;
                 owners-long = omega (arith, filled .long);
-                fits = record { owned = record { shaped = shaped; nodes = s .tables .nodes; owners-are = λ v h. filled .top-is v h ∙ own-is shaped tree v h }; tree = tree };
-                ends = ends-of (s .graph) shaped n parents tree (r .leaves) (r .roots) (leaves-are (s .graph) shaped tree) roots-are;
+                fits = record { owned = record { shaped = shaped; nodes = s .tables .nodes; owners-are = λ v h. filled .top-is v h ∙ own-is shaped tree v h; roots-are = ends .roots-are }; tree = tree };
+                ends = ends;
                 rows = rows;
               };
               is = refl;

@@ -2,25 +2,23 @@
 use Prim.Native.Nat.{ℕ, zero, suc, _+_, _-_, _≤_, _<_, min}
 use mathlib.Core.Path.{_≡_, refl, sym, ap, subst, _∙_}
 use mathlib.Core.List.{List, [], _∷_, _++_, append-assoc, append-nil}
-use mathlib.Core.Logic.{_⊎_, inl, inr}
+use mathlib.Core.Logic.{_⊎_, inl}
 use native.Mathlib.Omega.{arith}
-use native.Mathlib.Numerals.{add-one}
-use lib.ListN.{length, getD, take, drop, take-append-drop, length-append, length-drop}
+use lib.ListN.{length, take, drop, take-append-drop, length-append, length-drop}
 use lib.Seq.{length-take-le, take-all, drop-length, drop-drop, getD-drop, take-append-add, drop-append-add}
 use borrow.Rule.Slice.PartMut.{midOf, putMid}
 use Rattle.nodeset.specs.declared.NodeSet.{NodeSet}
 use Rattle.graph.specs.Graph.{Graph}
 use Rattle.graph.specs.Order.{entry, limit}
-use Rattle.listing.proofs.Choosing.{Unforked}
 use Rattle.listing.proofs.Readings.{listed}
 use Rattle.listing.proofs.Settled.{settled}
-use Rattle.fork.specs.Given.{Given}
+use Rattle.fork.specs.Reduced.{Given}
 use Rattle.walking.specs.Walk.{graphAt}
 use Rattle.walking.proofs.States.{at-below, at-entry}
-use Rattle.walk.specs.Decisions.{decisions}
-use Rattle.walk.specs.Given.{Sheet}
-use Rattle.walk.specs.States.{Stands}
-use Rattle.walk.proofs.Walks.{stands-given}
+use Rattle.halves.specs.Decisions.{decisions}
+use Rattle.halves.specs.Given.{Fits}
+use Rattle.halves.specs.States.{Stands}
+use Rattle.halves.proofs.Walks.{stands-given}
 use Rattle.numbered.specs.Numbered.{joined, Reaches}
 use Rattle.numbered.specs.declared.Reached.{Reached}
 use Rattle.numbered.specs.declared.Reached.the-variants.{At, Only}
@@ -109,24 +107,22 @@ handed-none g passed old =
       rest = refl;
     }
 
-module _ {n : ℕ} {parents owners : List ℕ} {leaves roots : NodeSet} {base-low base-high : List ℕ} (s : Sheet n parents owners leaves roots base-low base-high)
-    {uppers lowers low high : List ℕ} {depth last : ℕ} (x : Stands (s .graph) uppers lowers low high depth last) where
+module _ {g : Graph} {n : ℕ} {parents owners : List ℕ} {roots : NodeSet} (f : Fits g n parents owners roots) {uppers lowers low high : List ℕ} {depth last : ℕ} (x : Stands g uppers lowers low high depth last) where
   pub handed-more : (passed : ℕ) (old now₁ : List ℕ) (end : ℕ) (new : List ℕ) → end + n ≤ length now₁ → length new ≡ length now₁ → drop (end + n) new ≡ drop (end + n) now₁
-      → ((g : Graph) → Given g n leaves roots low high → Unforked g → take (end + n) new ≡ take end now₁ ++ settled g)
-      → Handed (s .graph) passed old last end now₁ → Handed (s .graph) passed old (last + 1) (end + n) new
+      → ((h : Graph) → Given h n low high → take (end + n) new ≡ take end now₁ ++ settled h)
+      → Handed g passed old last end now₁ → Handed g passed old (last + 1) (end + n) new
   handed-more passed old now₁ end new room same kept wrote h =
-      let g : Graph = s .graph in
       record {
         from = omega (arith, h .from);
         fits = omega (arith, h .long);
         long = same ∙ h .long;
         bytes =
-            wrote (graphAt g (decisions uppers lowers depth)) (stands-given s x) (x .at .unforked)
+            wrote (graphAt g (decisions uppers lowers depth)) (stands-given f x)
             ∙ rw (h .bytes, sym (at-entry (x .at))) (sym (placings-more (listed g) passed last (h .from) (at-below (x .at))));
         rest = kept ∙ sym (drop-drop n end now₁) ∙ ap (drop n) (h .rest) ∙ drop-drop n end old;
       }
 
-  pub stands-within : last < limit → last + 1 ≤ min (length (listed (s .graph))) limit
+  pub stands-within : last < limit → last + 1 ≤ min (length (listed g)) limit
   stands-within h = omega (arith, at-below (x .at))
 
 pub handed-all : (g : Graph) (passed : ℕ) (old : List ℕ) (last end : ℕ) (new : List ℕ) → passed < last → last ≤ min (length (listed g)) limit

@@ -1,5 +1,2 @@
-pub mod Tables
-pub mod Fitting
-pub mod Walks
-pub mod Dives
-pub mod Saved
+pub mod Moved
+pub mod Walked

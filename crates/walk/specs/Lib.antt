@@ -1,6 +1,2 @@
-pub mod Decisions
-pub mod Given
-pub mod Levels
 pub mod States
 pub mod Moves
-pub mod Dives

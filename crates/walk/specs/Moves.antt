@@ -7,8 +7,8 @@ use Rattle.graph.specs.Graph.{Graph}
 use Rattle.listing.proofs.Readings.{listed}
 use Rattle.walk.specs.declared.steps.Moved.{Moved}
 use Rattle.walk.specs.declared.steps.Moved.the-variants.{To, End}
-use Rattle.walk.specs.Levels.{Saved}
-use Rattle.walk.specs.States.{Enters, Stands}
+use Rattle.halves.specs.Levels.{Saved}
+use Rattle.halves.specs.States.{Enters, Stands}
 
 -- out of the half that the walk was in
 abbrev pub Left : Graph → List ℕ → List ℕ → List ℕ → List ℕ → ℕ → Moved → Type 0

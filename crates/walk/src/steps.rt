@@ -1,25 +1,25 @@
 // From reading to reading. The decisions are `depth` entries of two tables: the leaf that the edge added starts from, and
 // the leaf whose root it goes to. It is the first half of its choice where the one that it starts from is the lower.
-use crate::dive::Dived;
-use crate::dive::back;
-use crate::dive::hop;
-use crate::halves::other_half;
-use crate::halves::take_half;
-use crate::levels::save;
 use fork::choose::Fork;
 use fork::choose::choose;
+use fork::reduced::reduce;
+use halves::dive::Dived;
+use halves::dive::back;
+use halves::dive::hop;
+use halves::levels::save;
+use halves::tested::other_half;
+use halves::tested::take_half;
 use nodeset::NodeSet;
-use rows::copy_rows;
 ghost use Prim.Native.Nat.{ℕ, _+_};
-ghost use Rattle.graph.specs.Graph.{Graph, Descent};
-ghost use Rattle.rows.specs.Rows.{Long, Rows};
+ghost use Rattle.graph.specs.Graph.{Graph};
 ghost use Rattle.sheet.specs.Judge.{Parents};
-ghost use Rattle.fork.specs.Given.{Ends};
+ghost use Rattle.fork.specs.Reduced.{Wide};
 ghost use Rattle.walking.specs.Walk.{Leaving};
-ghost use Rattle.walk.specs.Decisions.{decisions, Within, Room};
-ghost use Rattle.walk.specs.Given.{Owners, Fits, Sheet};
-ghost use Rattle.walk.specs.Levels.{Levels, Saved};
-ghost use Rattle.walk.specs.States.{Enters, Stands, Arriving, Standing, Departing};
+ghost use Rattle.halves.specs.Decisions.{decisions, Within, Room};
+ghost use Rattle.halves.specs.Given.{Owners, Fits, Sheet};
+ghost use Rattle.halves.specs.Levels.{Levels, Saved};
+ghost use Rattle.halves.specs.States.{Enters, Stands};
+ghost use Rattle.walk.specs.States.{Arriving, Standing, Departing};
 ghost use Rattle.walk.specs.Moves.{Left, Moves, SavedAt};
 
 pub enum Moved {
@@ -32,7 +32,6 @@ fn enter(
     parent: &[u8],
     owner: &[u8],
     n: usize,
-    leaves: NodeSet,
     roots: NodeSet,
     low: &mut [u64],
     high: &mut [u64],
@@ -42,10 +41,10 @@ fn enter(
     lowers: &mut [u8],
     depth: usize,
 ) -> usize
-    requires { ⌜ Arriving n (now parent) (now owner) leaves roots (now uppers) (now lowers) (now low) (now high) depth ⌝ }
+    requires { ⌜ Arriving n (now parent) (now owner) roots (now uppers) (now lowers) (now low) (now high) depth ⌝ }
     requires { ⌜ Room n (now uppers) (now lowers) × Levels (now «saved_low») (now «saved_high») ⌝ }
     ensures { λ r. ⌜
-        ((g : Graph) (k : ℕ) → Fits g n (now (parent .entry)) (now (owner .entry)) → Ends g n leaves roots →
+        ((g : Graph) (k : ℕ) → Fits g n (now (parent .entry)) (now (owner .entry)) roots →
         Enters g (now (uppers .entry)) (now (lowers .entry)) (now (low .entry)) (now (high .entry)) depth k →
         Stands g (now (uppers .exit)) (now (lowers .exit)) (now (low .exit)) (now (high .exit)) r k
         × (Saved g (now (uppers .entry)) (now (lowers .entry)) (now («saved_low» .entry)) (now («saved_high» .entry)) depth →
@@ -54,11 +53,11 @@ fn enter(
 {
     let mut at = depth;
     loop {
-        let Fork::At(v, a, b) = choose(low, high, n, leaves, roots) else {
+        let Fork::At(v, a, b) = choose(low, high, n) else {
             return at;
         };
-        save(low, high, saved_low, saved_high, at);
-        take_half(parent, owner, n, low, high, uppers, lowers, at, a, b);
+        save(low, high, n, saved_low, saved_high, at);
+        take_half(parent, owner, n, roots, low, high, uppers, lowers, at, a, b);
         at += 1;
     }
 }
@@ -68,8 +67,7 @@ fn leave(
     parent: &[u8],
     owner: &[u8],
     n: usize,
-    base_low: &[u64],
-    base_high: &[u64],
+    roots: NodeSet,
     low: &mut [u64],
     high: &mut [u64],
     saved_low: &[u64],
@@ -79,13 +77,11 @@ fn leave(
     depth: usize,
 ) -> Moved
     requires { ⌜
-        Parents n (now parent) × Owners n (now owner) × Long (now «base_low») (now «base_high») × Long (now low) (now high)
-        × Levels (now «saved_low») (now «saved_high»)
+        Parents n (now parent) × Owners n (now owner) roots × Wide (now low) (now high) × Levels (now «saved_low») (now «saved_high»)
         ⌝ }
     requires { ⌜ Within n depth (now uppers) (now lowers) ⌝ }
     ensures { λ r. ⌜
-        ((g : Graph) (k : ℕ) → Fits g n (now (parent .entry)) (now (owner .entry)) →
-        Rows (Descent g) (now («base_low» .entry)) (now («base_high» .entry)) →
+        ((g : Graph) (k : ℕ) → Fits g n (now (parent .entry)) (now (owner .entry)) roots →
         Leaving g (decisions (now (uppers .entry)) (now (lowers .entry)) depth) k →
         Saved g (now (uppers .entry)) (now (lowers .entry)) (now («saved_low» .entry)) (now («saved_high» .entry)) depth →
         Left g (now (uppers .exit)) (now (lowers .exit)) (now (low .exit)) (now (high .exit)) k r
@@ -102,8 +98,7 @@ fn leave(
                 parent,
                 owner,
                 n,
-                base_low,
-                base_high,
+                roots,
                 saved_low,
                 saved_high,
                 uppers,
@@ -138,19 +133,18 @@ pub fn first(
     lowers: &mut [u8],
 ) -> usize
     requires { ⌜ Sheet n (now parent) (now owner) leaves roots (now «base_low») (now «base_high») ⌝ }
-    requires { ⌜ Long (now low) (now high) × Room n (now uppers) (now lowers) × Levels (now «saved_low») (now «saved_high») ⌝ }
+    requires { ⌜ Wide (now low) (now high) × Room n (now uppers) (now lowers) × Levels (now «saved_low») (now «saved_high») ⌝ }
     ensures { λ r. ⌜
         ((s : Sheet n (now (parent .entry)) (now (owner .entry)) leaves roots (now («base_low» .entry)) (now («base_high» .entry))) →
         Stands (s .graph) (now (uppers .exit)) (now (lowers .exit)) (now (low .exit)) (now (high .exit)) r 0
         × Saved (s .graph) (now (uppers .exit)) (now (lowers .exit)) (now («saved_low» .exit)) (now («saved_high» .exit)) r)
         ⌝ }
 {
-    copy_rows(base_low, base_high, low, high);
+    reduce(base_low, base_high, n, leaves, roots, low, high);
     enter(
         parent,
         owner,
         n,
-        leaves,
         roots,
         low,
         high,
@@ -167,10 +161,7 @@ fn advance(
     parent: &[u8],
     owner: &[u8],
     n: usize,
-    leaves: NodeSet,
     roots: NodeSet,
-    base_low: &[u64],
-    base_high: &[u64],
     low: &mut [u64],
     high: &mut [u64],
     saved_low: &mut [u64],
@@ -180,25 +171,22 @@ fn advance(
     depth: usize,
 ) -> Moved
     requires { ⌜
-        Departing n (now parent) (now owner) leaves roots (now «base_low») (now «base_high»)
-        (now uppers) (now lowers) (now «saved_low») (now «saved_high») depth
+        Departing n (now parent) (now owner) roots (now uppers) (now lowers) (now «saved_low») (now «saved_high») depth
         ⌝ }
-    requires { ⌜ Long (now low) (now high) × Room n (now uppers) (now lowers) ⌝ }
+    requires { ⌜ Wide (now low) (now high) × Room n (now uppers) (now lowers) ⌝ }
     ensures { λ r. ⌜
-        ((s : Sheet n (now (parent .entry)) (now (owner .entry)) leaves roots (now («base_low» .entry)) (now («base_high» .entry)))
-        (k : ℕ) →
-        Leaving (s .graph) (decisions (now (uppers .entry)) (now (lowers .entry)) depth) k →
-        Saved (s .graph) (now (uppers .entry)) (now (lowers .entry)) (now («saved_low» .entry)) (now («saved_high» .entry)) depth →
-        Moves (s .graph) (now (uppers .exit)) (now (lowers .exit)) (now (low .exit)) (now (high .exit)) k r
-        × SavedAt (s .graph) (now (uppers .exit)) (now (lowers .exit)) (now («saved_low» .exit)) (now («saved_high» .exit)) r)
+        ((g : Graph) (k : ℕ) → Fits g n (now (parent .entry)) (now (owner .entry)) roots →
+        Leaving g (decisions (now (uppers .entry)) (now (lowers .entry)) depth) k →
+        Saved g (now (uppers .entry)) (now (lowers .entry)) (now («saved_low» .entry)) (now («saved_high» .entry)) depth →
+        Moves g (now (uppers .exit)) (now (lowers .exit)) (now (low .exit)) (now (high .exit)) k r
+        × SavedAt g (now (uppers .exit)) (now (lowers .exit)) (now («saved_low» .exit)) (now («saved_high» .exit)) r)
         ⌝ }
 {
     let Moved::To(turned) = leave(
         parent,
         owner,
         n,
-        base_low,
-        base_high,
+        roots,
         low,
         high,
         saved_low,
@@ -213,7 +201,6 @@ fn advance(
         parent,
         owner,
         n,
-        leaves,
         roots,
         low,
         high,
@@ -231,10 +218,7 @@ pub fn next(
     parent: &[u8],
     owner: &[u8],
     n: usize,
-    leaves: NodeSet,
     roots: NodeSet,
-    base_low: &[u64],
-    base_high: &[u64],
     low: &mut [u64],
     high: &mut [u64],
     saved_low: &mut [u64],
@@ -244,20 +228,15 @@ pub fn next(
     depth: usize,
 ) -> Moved
     requires { ⌜
-        Standing n (now parent) (now owner) leaves roots (now «base_low») (now «base_high»)
-        (now uppers) (now lowers) (now low) (now high) depth
+        ((k : ℕ) × Standing n (now parent) (now owner) roots (now uppers) (now lowers) (now low) (now high) (now «saved_low») (now «saved_high») depth k)
         ⌝ }
     requires { ⌜ Room n (now uppers) (now lowers) ⌝ }
-    requires { ⌜
-        ((s : Sheet n (now parent) (now owner) leaves roots (now «base_low») (now «base_high»)) →
-        Saved (s .graph) (now uppers) (now lowers) (now «saved_low») (now «saved_high») depth)
-        ⌝ }
     ensures { λ r. ⌜
-        ((s : Sheet n (now (parent .entry)) (now (owner .entry)) leaves roots (now («base_low» .entry)) (now («base_high» .entry)))
-        (k : ℕ) →
-        Stands (s .graph) (now (uppers .entry)) (now (lowers .entry)) (now (low .entry)) (now (high .entry)) depth k →
-        Moves (s .graph) (now (uppers .exit)) (now (lowers .exit)) (now (low .exit)) (now (high .exit)) (k + 1) r
-        × SavedAt (s .graph) (now (uppers .exit)) (now (lowers .exit)) (now («saved_low» .exit)) (now («saved_high» .exit)) r)
+        ((g : Graph) (k : ℕ) → Fits g n (now (parent .entry)) (now (owner .entry)) roots →
+        Stands g (now (uppers .entry)) (now (lowers .entry)) (now (low .entry)) (now (high .entry)) depth k →
+        Saved g (now (uppers .entry)) (now (lowers .entry)) (now («saved_low» .entry)) (now («saved_high» .entry)) depth →
+        Moves g (now (uppers .exit)) (now (lowers .exit)) (now (low .exit)) (now (high .exit)) (k + 1) r
+        × SavedAt g (now (uppers .exit)) (now (lowers .exit)) (now («saved_low» .exit)) (now («saved_high» .exit)) r)
         ⌝ }
 {
     let at = back(uppers, lowers, depth);
@@ -267,10 +246,7 @@ pub fn next(
     match hop(
         owner,
         n,
-        leaves,
         roots,
-        base_low,
-        base_high,
         low,
         high,
         saved_low,
@@ -284,10 +260,7 @@ pub fn next(
             parent,
             owner,
             n,
-            leaves,
             roots,
-            base_low,
-            base_high,
             low,
             high,
             saved_low,

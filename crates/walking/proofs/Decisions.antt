@@ -51,10 +51,6 @@ pub graph-own : (g : Graph) (ds : List Decision) (v : ℕ) → own (graphAt g ds
 unfolding own
 graph-own g ds v = rw (graph-nodes g ds, graph-tree g ds)
 
-pub graph-leaf : (g : Graph) (ds : List Decision) (v : ℕ) → leaf (graphAt g ds) v ≡ leaf g v
-unfolding leaf
-graph-leaf g ds v = rw (graph-nodes g ds, graph-tree g ds)
-
 pub graph-root : (g : Graph) (ds : List Decision) (v : ℕ) → root (graphAt g ds) v ≡ root g v
 unfolding root
 graph-root g ds v = rw (graph-nodes g ds, graph-tree g ds)

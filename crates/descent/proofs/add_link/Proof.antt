@@ -8,8 +8,8 @@ use Rattle.descent.proofs.add_link.Tie as tie
 
 add-edge-requires : tie.Need-add-edge-requires
 add-edge-requires c κs =
-    let s = c .before .before .before .before .before in
-    ((search needs, search needs), search needs, s .pre .3 (c .before .before .if1 .taken), search needs)
+    let below = c .before .before .before .before .before .pre .3 (c .before .before .if1 .taken) in
+    search needs
 
 same-length : tie.Need-same-length
 same-length c = search needs
@@ -24,7 +24,7 @@ returns c =
     let some = c .before .before .before .before .before .before .before .if1 .taken in
     adds-ext
     (λ u v. link-present (a .above) (a .v) u v some)
-    (extended-adds (a .n) (a .above) (a .v) (s .pre .3 some) (c .before .before .before .before .add-edge .ensures))
+    (extended-adds (a .n) (a .above) (a .v) (s .pre .3 some) (c .before .before .before .before .add-edge .ensures .0))
 
 returns-2 : tie.Need-returns-2
 returns-2 c =

@@ -1,13 +1,14 @@
--- The invariant: the edges to the members that are no longer left are added. The lowest member left rises.
-use Prim.Native.Nat.{ℕ, _-_}
+-- The invariant: the edges to the members that are no longer left are added.
+use Prim.Native.Nat.{ℕ}
 use mathlib.Core.Path.{_≡_}
 use mathlib.Core.Bool.{true}
 use native.Mathlib.Omega.{arith}
 use borrow.Author.Needs.{needs}
-use Rattle.finite.specs.Below.{least}
+use Rattle.finite.specs.Below.{count}
 use Rattle.nodeset.specs.Set.{mem}
+use Rattle.nodeset.proofs.Members.{small-set, no-member, lowest-in, one-less}
 use Rattle.descent.specs.Closing.{Adds}
-use Rattle.descent.proofs.Edges.{adds-ext, adds-none, adds-more, extended-adds, passed, passed-none, passed-more, passed-all, passed-from, left-stays, some-left, none-left, lowest-there, lowest-rises}
+use Rattle.descent.proofs.Edges.{adds-ext, adds-none, adds-more, extended-adds, passed, passed-none, passed-more, passed-all, passed-from, left-stays}
 use Rattle.descent.proofs.add_row.Statement.{statement}
 use Rattle.descent.proofs.add_row.Tie as tie
 
@@ -16,7 +17,7 @@ Inv-loop l n low₀ high₀ left₀ low high left =
     ((v : ℕ) → mem left v ≡ true → mem left₀ v ≡ true) × Adds n (passed l left₀ left) low₀ high₀ low high
 
 abbrev μ-loop : tie.MeasureT-loop
-μ-loop l n low₀ high₀ left₀ low high left = 128 - least 128 (mem left)
+μ-loop l n low₀ high₀ left₀ low high left = count 128 (mem left)
 
 loop-holds : tie.Need-loop-holds Inv-loop μ-loop
 loop-holds c = (λ v t. t, adds-none _ _ _ _ (passed-none _ _))
@@ -29,38 +30,40 @@ lowest-requires c κs = search needs
 
 add-edge-requires : tie.Need-add-edge-requires Inv-loop μ-loop
 add-edge-requires c κs =
-    let t = c .before .before .before in
-    let there = lowest-there (t .before .before .loop .left) (some-left _ (t .before .is-empty .ensures) (t .if1 .taken)) in
-    ((search needs, search needs), search needs, search needs, omega (arith, there .0, c .before .before .lowest .ensures))
+    let k = c .before .before in
+    let e = k .before .before in
+    let below = lowest-in (e .before .loop .left) _ (k .lowest .result) (e .is-empty .ensures) (k .before .if1 .taken) (k .lowest .ensures) .0 in
+    search needs
 
 without-requires : tie.Need-without-requires Inv-loop μ-loop
 without-requires c κs =
-    let t = c .before .before .before .before .before .before .before .before in
-    let there = lowest-there (t .before .before .loop .left) (some-left _ (t .before .is-empty .ensures) (t .if1 .taken)) in
-    omega (arith, there .0, c .before .before .before .before .before .before .before .lowest .ensures)
+    let k = c .before .before .before .before .before .before .before in
+    let e = k .before .before in
+    lowest-in (e .before .loop .left) _ (k .lowest .result) (e .is-empty .ensures) (k .before .if1 .taken) (k .lowest .ensures) .0
 
 loop-less : tie.Need-loop-less Inv-loop μ-loop
 loop-less c =
-    let t = c .before .before .before .before .before .before .before .before .before in
-    lowest-rises (t .before .before .loop .left) (c .without .result)
-    (some-left _ (t .before .is-empty .ensures) (t .if1 .taken))
-    (rw (← c .before .before .before .before .before .before .before .before .lowest .ensures) (c .without .ensures))
+    let k = c .before .before .before .before .before .before .before .before in
+    let e = k .before .before in
+    let l = e .before .loop in
+    let x = lowest-in (l .left) _ (k .lowest .result) (e .is-empty .ensures) (k .before .if1 .taken) (k .lowest .ensures) in
+    omega (arith, one-less (l .left) (k .lowest .result) (c .without .result) (x .0) (x .1) (c .without .ensures))
 
 loop-again : tie.Need-loop-again Inv-loop μ-loop
 loop-again c =
-    let t = c .before .before .before .before .before .before .before .before .before in
-    let l = t .before .before .loop in
-    let a = t .before .before .before .before .before .args in
-    let low = c .before .before .before .before .before .before .before .before .lowest in
-    let r = low .result in
-    let there : mem (l .left) r ≡ true = rw (low .ensures) (lowest-there (l .left) (some-left _ (t .before .is-empty .ensures) (t .if1 .taken)) .1) in (
+    let k = c .before .before .before .before .before .before .before .before in
+    let e = k .before .before in
+    let l = e .before .loop in
+    let a = e .before .before .before .before .args in
+    let r = k .lowest .result in
+    let x = lowest-in (l .left) _ r (e .is-empty .ensures) (k .before .if1 .taken) (k .lowest .ensures) in (
       left-stays r (a .row) (l .left) (c .without .result) (l .inv .0) (c .without .ensures),
       adds-ext
-          (passed-more (a .l) r (a .row) (l .left) (c .without .result) there (l .inv .0 r there) (c .without .ensures))
+          (passed-more (a .l) r (a .row) (l .left) (c .without .result) (x .1) (l .inv .0 r (x .1)) (c .without .ensures))
           (adds-more
           (passed-from (a .n) (a .l) (a .row) (l .left) (omega arith))
           (l .inv .1)
-          (extended-adds (a .n) (a .l) r (omega arith) (c .before .before .before .before .before .add-edge .ensures))),
+          (extended-adds (a .n) (a .l) r (omega arith) (c .before .before .before .before .before .add-edge .ensures .0))),
     )
 
 same-length : tie.Need-same-length Inv-loop μ-loop
@@ -71,10 +74,11 @@ same-length-2 c = search needs
 
 returns : tie.Need-returns Inv-loop μ-loop
 returns c =
-    let l = c .before .before .loop in
-    let a = c .before .before .before .before .before .args in
+    let e = c .before in
+    let l = e .before .loop in
+    let s = e .before .before .before .before in
     adds-ext
-    (passed-all (a .l) (a .row) (l .left) (omega arith) (none-left _ (c .before .is-empty .ensures) (c .if1 .left)))
+    (passed-all (s .args .l) (s .args .row) (l .left) (small-set (s .args .row) (omega (arith, s .good))) (no-member (l .left) _ (e .is-empty .ensures) (c .if1 .left)))
     (l .inv .1)
 
 pub add-row-spec : {M : Type 1} → statement M

@@ -1,6 +1,6 @@
 -- To the reading, and its placing settled; or there are fewer.
 use native.Mathlib.Omega.{arith}
-use Rattle.numbered.proofs.Numbers.{found, found-none, roots-below, room}
+use Rattle.numbered.proofs.Numbers.{found, found-none, room}
 use borrow.Author.Needs.{needs}
 use Rattle.numbered.proofs.find.Statement.{statement}
 use Rattle.numbered.proofs.find.Tie as tie
@@ -41,7 +41,7 @@ slice-aggregate-settle-2 c = search needs
 
 settle-requires : tie.Need-settle-requires
 settle-requires c κs =
-    ((search needs, search needs), c .before .before .before .before .before .before .before .before .before .before .before .before .before .before .before .before .before .before .before .before .before .before .before .pre .0 .parents-table .few, c .before .before .before .before .before .before .before .before .before .before .before .before .before .before .before .before .before .before .before .before .before .before .before .pre .2, roots-below (c .before .before .before .before .before .before .before .before .before .before .before .before .before .before .before .before .before .before .before .before .before .before .before .pre .0))
+    ((search needs, search needs), c .before .before .before .before .before .before .before .before .before .before .before .before .before .before .before .before .before .before .before .before .before .before .before .pre .0 .parents-table .few, c .before .before .before .before .before .before .before .before .before .before .before .before .before .before .before .before .before .before .before .before .before .before .before .pre .2)
 
 returns : tie.Need-returns
 returns c =

@@ -3,30 +3,32 @@ use Prim.Native.Nat.{ℕ, _+_, _-_, _≤_}
 use mathlib.Core.Path.{_≡_, refl, subst}
 use native.Mathlib.Omega.{arith}
 use lib.ListN.{length}
-use borrow.Author.Needs.{needs}
 use Rattle.listing.proofs.Readings.{listed}
-use Rattle.walk.specs.Given.{Sheet}
-use Rattle.walk.specs.States.{Stands}
-use Rattle.walk.specs.Levels.{Saved}
-use Rattle.walk.proofs.Saved.{saved-there}
+use Rattle.graph.specs.Graph.{Graph}
+use Rattle.halves.specs.Given.{Fits}
+use Rattle.halves.specs.States.{Stands}
+use Rattle.halves.specs.Levels.{Saved}
+use Rattle.halves.proofs.Saved.{saved-there}
+use Rattle.walk.proofs.Walked.{walked-of}
 use Rattle.numbered.proofs.Numbers.{same-reach, only-not-at}
+use borrow.Author.Needs.{needs}
 use Rattle.numbered.proofs.reach.Statement.{statement}
 use Rattle.numbered.proofs.reach.Tie as tie
 
 abbrev Inv-loop : tie.InvT-loop
-Inv-loop parent owner n leaves roots base-low base-high low₀ high₀ saved-low₀ saved-high₀ uppers₀ lowers₀ k depth₀ before passed₀ low high saved-low saved-high uppers lowers depth passed =
+Inv-loop parent owner n roots base-low base-high low₀ high₀ saved-low₀ saved-high₀ uppers₀ lowers₀ k depth₀ before passed₀ low high saved-low saved-high uppers lowers depth passed =
     (passed ≤ before)
     × (length low ≡ length low₀)
     × (length high ≡ length high₀)
     × (length uppers ≡ length uppers₀)
     × (length lowers ≡ length lowers₀)
-    × ((s : Sheet n parent owner leaves roots base-low base-high) → Stands (s .graph) uppers lowers low high depth passed)
-    × ((s : Sheet n parent owner leaves roots base-low base-high) → Saved (s .graph) uppers lowers saved-low saved-high depth)
+    × ((g : Graph) → Fits g n parent owner roots → Stands g uppers₀ lowers₀ low₀ high₀ depth₀ 0 → Saved g uppers₀ lowers₀ saved-low₀ saved-high₀ depth₀
+    → Stands g uppers lowers low high depth passed × Saved g uppers lowers saved-low saved-high depth)
     × (length saved-low ≡ length saved-low₀)
     × (length saved-high ≡ length saved-high₀)
 
 abbrev μ-loop : tie.MeasureT-loop
-μ-loop parent owner n leaves roots base-low base-high low₀ high₀ saved-low₀ saved-high₀ uppers₀ lowers₀ k depth₀ before passed₀ low high saved-low saved-high uppers lowers depth passed = before - passed
+μ-loop parent owner n roots base-low base-high low₀ high₀ saved-low₀ saved-high₀ uppers₀ lowers₀ k depth₀ before passed₀ low high saved-low saved-high uppers lowers depth passed = before - passed
 
 first-requires : tie.Need-first-requires Inv-loop μ-loop
 first-requires c κs = search needs
@@ -35,13 +37,15 @@ sub-before : tie.Need-sub-before Inv-loop μ-loop
 sub-before c = search needs
 
 loop-holds : tie.Need-loop-holds Inv-loop μ-loop
-loop-holds c = (omega arith, refl, refl, refl, refl, λ s. c .before .before .before .before .before .before .before .before .before .before .before .before .first .ensures s .0, λ s. c .before .before .before .before .before .before .before .before .before .before .before .before .first .ensures s .1, refl, refl)
+loop-holds c = (omega arith, refl, refl, refl, refl, λ g f x s. (x, s), refl, refl)
 
 next-requires : tie.Need-next-requires Inv-loop μ-loop
 next-requires c κs =
-    let l = c .before .before .before .before .before .before .before .loop in (
-      record { sheet = c .before .before .before .before .before .before .before .before .before .before .before .before .before .before .before .before .before .before .before .before .before .before .before .before .before .before .before .before .before .before .before .before .before .before .before .before .before .pre .0; passed = l .passed; stands = l .inv .5 (c .before .before .before .before .before .before .before .before .before .before .before .before .before .before .before .before .before .before .before .before .before .before .before .before .before .before .before .before .before .before .before .before .before .before .before .before .before .pre .0) },
-      ((omega (arith, c .before .before .before .before .before .before .before .before .before .before .before .before .before .before .before .before .before .before .before .before .before .before .before .before .before .before .before .before .before .before .before .before .before .before .before .before .before .pre .1 .1 .0, l .inv .3), omega (arith, c .before .before .before .before .before .before .before .before .before .before .before .before .before .before .before .before .before .before .before .before .before .before .before .before .before .before .before .before .before .before .before .before .before .before .before .before .before .pre .1 .1 .1, l .inv .4)), l .inv .6),
+    let l = c .before .before .before .before .before .before .before .loop in
+    let h = c .before .before .before .before .before .before .before .before .before .before .before .before .before .before .before .before .before .before .before .before .before .before .before .before .before .before .before .before .before .before .before .before .before .before .before .before .before .pre .0 in
+    let x = l .inv .5 (h .graph) (h .fits) (c .before .before .before .before .before .before .before .before .before .before .before .before .before .before .before .before .before .before .before .before .first .ensures h .0) (c .before .before .before .before .before .before .before .before .before .before .before .before .before .before .before .before .before .before .before .before .first .ensures h .1) in (
+      (l .passed, record { walked = walked-of h; stands = x .0; saved = x .1 }),
+      (omega (arith, c .before .before .before .before .before .before .before .before .before .before .before .before .before .before .before .before .before .before .before .before .before .before .before .before .before .before .before .before .before .before .before .before .before .before .before .before .before .pre .1 .1 .0, l .inv .3), omega (arith, c .before .before .before .before .before .before .before .before .before .before .before .before .before .before .before .before .before .before .before .before .before .before .before .before .before .before .before .before .before .before .before .before .before .before .before .before .before .pre .1 .1 .1, l .inv .4)),
     )
 
 enum-known-deep : tie.Need-enum-known-deep Inv-loop μ-loop
@@ -75,7 +79,8 @@ returns : tie.Need-returns Inv-loop μ-loop
 returns c =
     let l = c .before .before .before .before .before .before .before .before .before .before .before .before .before .before .before .before .before .before .before .before .before .before .loop in
     λ h.
-    let all : length (listed (h .graph)) ≡ l .passed + 1 = rw (c .enum-told .given .1) at (c .before .before .before .before .before .before .before .before .before .before .before .before .before .before .next .ensures h (l .passed) (l .inv .5 h) .0) in
+    let x = l .inv .5 (h .graph) (h .fits) (c .before .before .before .before .before .before .before .before .before .before .before .before .before .before .before .before .before .before .before .before .before .before .before .before .before .before .before .before .before .before .before .before .before .before .before .first .ensures h .0) (c .before .before .before .before .before .before .before .before .before .before .before .before .before .before .before .before .before .before .before .before .before .before .before .before .before .before .before .before .before .before .before .before .before .before .before .first .ensures h .1) in
+    let all : length (listed (h .graph)) ≡ l .passed + 1 = rw (c .enum-told .given .1) at (c .before .before .before .before .before .before .before .before .before .before .before .before .before .before .next .ensures (h .graph) (l .passed) (h .fits) (x .0) (x .1) .0) in
     ((all, omega arith), λ depth is. absurd (only-not-at is))
 
 add-passed : tie.Need-add-passed Inv-loop μ-loop
@@ -87,8 +92,19 @@ loop-less c = search needs
 loop-again : tie.Need-loop-again Inv-loop μ-loop
 loop-again c =
     let l = c .before .before .before .before .before .before .before .before .before .before .before .before .before .before .before .before .before .before .before .before .before .before .before .loop in
-    let e = c .before .before .before .before .before .before .before .before .before .before .before .before .before .before .before .next .ensures in
-    (omega (arith, c .before .before .before .before .before .before .before .before .before .before .before .before .before .before .before .before .before .before .before .before .before .before .loop-test .taken), search needs, search needs, search needs, search needs, λ h. rw (c .before .deep .given .1) at (e h (l .passed) (l .inv .5 h) .0), λ h. e h (l .passed) (l .inv .5 h) .1 _ (c .before .deep .given .1), search needs, search needs)
+    let e = c .before .before .before .before .before .before .before .before .before .before .before .before .before .before .before .next .ensures in (
+      omega (arith, c .before .before .before .before .before .before .before .before .before .before .before .before .before .before .before .before .before .before .before .before .before .before .loop-test .taken),
+      search needs,
+      search needs,
+      search needs,
+      search needs,
+      λ g f x s.
+          let y = l .inv .5 g f x s in
+          let z = e g (l .passed) f (y .0) (y .1) in
+          (rw (c .before .deep .given .1) at (z .0), z .1 _ (c .before .deep .given .1)),
+      search needs,
+      search needs,
+    )
 
 same-length-7 : tie.Need-same-length-7 Inv-loop μ-loop
 same-length-7 c = search needs
@@ -112,7 +128,9 @@ returns-2 : tie.Need-returns-2 Inv-loop μ-loop
 returns-2 c =
     let l = c .before .loop in
     let all : l .passed ≡ c .before .before .before .before .before .before .before .before .before .before .before .before .before .before .before .before .before .before .before .before .before .before .before .before .before .before .before .before .before .before .before .args .k - 1 = omega arith in
-    λ h. (subst (λ (m : ℕ). Stands (h .graph) (l .uppers) (l .lowers) (l .low) (l .high) (l .depth) m) all (l .inv .5 h), λ deep is. saved-there (same-reach is) (l .inv .6 h))
+    λ h.
+    let x = l .inv .5 (h .graph) (h .fits) (c .before .before .before .before .before .before .before .before .before .before .before .before .before .before .first .ensures h .0) (c .before .before .before .before .before .before .before .before .before .before .before .before .before .before .first .ensures h .1) in
+    (subst (λ (m : ℕ). Stands (h .graph) (l .uppers) (l .lowers) (l .low) (l .high) (l .depth) m) all (x .0), λ deep is. saved-there (same-reach is) (x .1))
 
 pub reach-spec : {M : Type 1} → statement M
 reach-spec =

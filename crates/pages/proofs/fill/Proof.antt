@@ -5,46 +5,45 @@ use mathlib.Core.List.{_++_, append-nil}
 use mathlib.Core.Bool.{true≢false}
 use native.Mathlib.Omega.{arith}
 use lib.ListN.{length, take}
-use borrow.Author.Needs.{needs}
+use Rattle.graph.specs.Graph.{Graph}
 use Rattle.graph.specs.Order.{limit}
-use Rattle.walk.specs.Given.{Sheet}
-use Rattle.walk.specs.States.{Stands}
-use Rattle.walk.specs.Levels.{Saved}
-use Rattle.numbered.proofs.Numbers.{roots-below, moved-on, moved-out}
+use Rattle.halves.specs.Given.{Fits}
+use Rattle.halves.specs.Levels.{Saved}
+use Rattle.halves.specs.States.{Stands}
+use Rattle.numbered.proofs.Numbers.{moved-on, moved-out}
 use Rattle.pages.specs.Pages.{linesTo}
 use Rattle.pages.proofs.Lines.{line-written, stands-below}
+use borrow.Author.Needs.{needs}
 use Rattle.pages.proofs.fill.Statement.{statement}
 use Rattle.pages.proofs.fill.Tie as tie
 
 abbrev Inv-loop : tie.InvT-loop
-Inv-loop parent owner n leaves roots base-low base-high low₀ high₀ saved-low₀ saved-high₀ uppers₀ lowers₀ depth passed out₀ at₀ last₀ end₀ low high saved-low saved-high uppers lowers out at last end =
+Inv-loop parent owner n roots low₀ high₀ saved-low₀ saved-high₀ uppers₀ lowers₀ depth passed out₀ at₀ last₀ end₀ low high saved-low saved-high uppers lowers out at last end =
     ((passed ≤ last) × (last < limit))
     × (end + 1100 ≤ length out)
     × ((length low ≡ length low₀) × (length high ≡ length high₀))
     × ((length uppers ≡ length uppers₀) × (length lowers ≡ length lowers₀))
     × (length out ≡ length out₀)
-    × ((s : Sheet n parent owner leaves roots base-low base-high) → Stands (s .graph) uppers lowers low high at last)
-    × ((s : Sheet n parent owner leaves roots base-low base-high) → linesTo (s .graph) passed ++ take end out ≡ linesTo (s .graph) last)
-    × ((s : Sheet n parent owner leaves roots base-low base-high) → Saved (s .graph) uppers lowers saved-low saved-high at)
+    × ((g : Graph) → Fits g n parent owner roots → Stands g uppers₀ lowers₀ low₀ high₀ depth passed → Saved g uppers₀ lowers₀ saved-low₀ saved-high₀ depth
+    → Stands g uppers lowers low high at last × Saved g uppers lowers saved-low saved-high at × (linesTo g passed ++ take end out ≡ linesTo g last))
     × ((length saved-low ≡ length saved-low₀) × (length saved-high ≡ length saved-high₀))
 
 abbrev μ-loop : tie.MeasureT-loop
-μ-loop parent owner n leaves roots base-low base-high low₀ high₀ saved-low₀ saved-high₀ uppers₀ lowers₀ depth passed out₀ at₀ last₀ end₀ low high saved-low saved-high uppers lowers out at last end = limit - last
+μ-loop parent owner n roots low₀ high₀ saved-low₀ saved-high₀ uppers₀ lowers₀ depth passed out₀ at₀ last₀ end₀ low high saved-low saved-high uppers lowers out at last end = limit - last
 
 loop-holds : tie.Need-loop-holds Inv-loop μ-loop
 loop-holds c =
-    let p = c .before .before .before .before .before .before .before .before .before .before .before .pre in
-    ((omega arith, p .1 .0 .2), p .1 .0 .3, (refl, refl), (refl, refl), refl, λ s. p .1 .1 s .0, λ s. append-nil (linesTo (s .graph) (c .before .before .before .before .before .before .before .before .before .before .before .args .passed)), λ s. p .1 .1 s .1, (refl, refl))
+    let p = c .before .before .before .before .before .before .before .before .before .pre in
+    ((omega arith, p .1 .1), p .1 .2, (refl, refl), (refl, refl), refl, λ g f x s. (x, s, append-nil (linesTo g (c .before .before .before .before .before .before .before .before .before .args .passed))), (refl, refl))
 
 add-last : tie.Need-add-last Inv-loop μ-loop
-add-last c =
-    omega (arith, c .loop .inv .0)
+add-last c = omega (arith, c .loop .inv .0)
 
 line-requires : tie.Need-line-requires Inv-loop μ-loop
 line-requires c κs =
     let l = c .before .before .before .loop in
-    let p = c .before .before .before .before .before .before .before .before .before .before .before .before .before .before .before .pre in
-    ((l .inv .2 .0 ∙ p .1 .0 .0 .0, l .inv .2 .1 ∙ p .1 .0 .0 .1), p .0 .parents-table .few, roots-below (p .0), l .inv .1)
+    let w = c .before .before .before .before .before .before .before .before .before .before .before .before .before .pre .0 .stands .reduction .wide in
+    ((l .inv .2 .0 ∙ w .0, l .inv .2 .1 ∙ w .1), c .before .before .before .before .before .before .before .before .before .before .before .before .before .pre .0 .walked .parents-table .few, l .inv .1)
 
 same-length : tie.Need-same-length Inv-loop μ-loop
 same-length c = search needs
@@ -69,25 +68,26 @@ same-length-7 c = search needs
 
 returns : tie.Need-returns Inv-loop μ-loop
 returns c =
-    let l = c .before .before .before .before .before .before .before .loop in
-    let k = c .before .before .before .line in (
+    let l = c .before .before .before .before .before .before .before .loop in (
       (search needs, omega (arith, l .inv .0), λ e. absurd (true≢false (sym e))),
-      λ s. (
-        record {
-          lines = line-written s (c .before .before .before .before .before .before .before .loop .inv .5 s) (c .before .before .before .before .before .before .before .before .before .before .before .before .before .before .before .before .before .before .before .args .passed) _ _ _ _ (c .before .before .before .line .ensures .0) (c .before .before .before .line .ensures .1) (c .before .before .before .before .before .before .before .loop .inv .6 s);
-          next = λ e. absurd (true≢false (sym e));
-          ended = λ e. omega (arith, stands-below s (l .inv .5 s), c .if1 .taken);
-        },
-        λ e. absurd (true≢false (sym e)),
-      ),
+      λ g f x s.
+          let y = l .inv .5 g f x s in (
+            record {
+              lines = line-written f (y .0) (c .before .before .before .before .before .before .before .before .before .before .before .before .before .before .before .before .before .args .passed) _ _ _ _ (c .before .before .before .line .ensures .0) (c .before .before .before .line .ensures .1) (y .2);
+              next = λ e. absurd (true≢false (sym e));
+              ended = λ e. omega (arith, stands-below f (y .0), c .if1 .taken);
+            },
+            λ e. absurd (true≢false (sym e)),
+          ),
     )
 
 next-requires : tie.Need-next-requires Inv-loop μ-loop
 next-requires c κs =
     let l = c .before .before .before .before .before .before .before .before .before .before .before .before .before .loop in
-    let p = c .before .before .before .before .before .before .before .before .before .before .before .before .before .before .before .before .before .before .before .before .before .before .before .before .before .pre in (
-      record { sheet = p .0; passed = l .last; stands = l .inv .5 (p .0) },
-      ((omega (arith, p .1 .0 .1 .0, l .inv .3 .0), omega (arith, p .1 .0 .1 .1, l .inv .3 .1)), l .inv .7),
+    let p = c .before .before .before .before .before .before .before .before .before .before .before .before .before .before .before .before .before .before .before .before .before .before .before .pre .0 in
+    let y = l .inv .5 (p .walked .graph) (p .walked .fits) (p .stands) (p .saved) in (
+      (l .last, record { walked = p .walked; stands = y .0; saved = y .1 }),
+      (omega (arith, c .before .before .before .before .before .before .before .before .before .before .before .before .before .before .before .before .before .before .before .before .before .before .before .pre .1 .0 .0, l .inv .3 .0), omega (arith, c .before .before .before .before .before .before .before .before .before .before .before .before .before .before .before .before .before .before .before .before .before .before .before .pre .1 .0 .1, l .inv .3 .1)),
     )
 
 enum-known-deep : tie.Need-enum-known-deep Inv-loop μ-loop
@@ -119,22 +119,21 @@ same-length-14 c = search needs
 
 returns-2 : tie.Need-returns-2 Inv-loop μ-loop
 returns-2 c =
-    let l = c .before .before .before .before .before .before .before .before .before .before .before .before .before .before .before .before .before .before .before .before .before .before .before .before .before .before .before .before .loop in
-    let k = c .before .before .before .before .before .before .before .before .before .before .before .before .before .before .before .before .before .before .before .before .before .before .before .before .line in (
+    let l = c .before .before .before .before .before .before .before .before .before .before .before .before .before .before .before .before .before .before .before .before .before .before .before .before .before .before .before .before .loop in (
       (search needs, omega (arith, l .inv .0), λ e. absurd (true≢false (sym e))),
-      λ s. (
-        record {
-          lines = line-written s (c .before .before .before .before .before .before .before .before .before .before .before .before .before .before .before .before .before .before .before .before .before .before .before .before .before .before .before .before .loop .inv .5 s) (c .before .before .before .before .before .before .before .before .before .before .before .before .before .before .before .before .before .before .before .before .before .before .before .before .before .before .before .before .before .before .before .before .before .before .before .before .before .before .before .before .args .passed) _ _ _ _ (c .before .before .before .before .before .before .before .before .before .before .before .before .before .before .before .before .before .before .before .before .before .before .before .before .line .ensures .0) (c .before .before .before .before .before .before .before .before .before .before .before .before .before .before .before .before .before .before .before .before .before .before .before .before .line .ensures .1) (c .before .before .before .before .before .before .before .before .before .before .before .before .before .before .before .before .before .before .before .before .before .before .before .before .before .before .before .before .loop .inv .6 s);
-          next = λ e. absurd (true≢false (sym e));
-          ended = λ e. omega (arith, moved-out (s .graph) _ _ _ _ _ _ (c .before .before .before .before .before .before .before .before .before .before .before .before .before .before .next .ensures s (l .last) (l .inv .5 s) .0) (c .enum-told .given .1), l .inv .0);
-        },
-        λ e. absurd (true≢false (sym e)),
-      ),
+      λ g f x s.
+          let y = l .inv .5 g f x s in (
+            record {
+              lines = line-written f (y .0) (c .before .before .before .before .before .before .before .before .before .before .before .before .before .before .before .before .before .before .before .before .before .before .before .before .before .before .before .before .before .before .before .before .before .before .before .before .before .before .args .passed) _ _ _ _ (c .before .before .before .before .before .before .before .before .before .before .before .before .before .before .before .before .before .before .before .before .before .before .before .before .line .ensures .0) (c .before .before .before .before .before .before .before .before .before .before .before .before .before .before .before .before .before .before .before .before .before .before .before .before .line .ensures .1) (y .2);
+              next = λ e. absurd (true≢false (sym e));
+              ended = λ e. omega (arith, moved-out g _ _ _ _ _ _ (c .before .before .before .before .before .before .before .before .before .before .before .before .before .before .next .ensures g (l .last) f (y .0) (y .1) .0) (c .enum-told .given .1), l .inv .0);
+            },
+            λ e. absurd (true≢false (sym e)),
+          ),
     )
 
 sub-if2 : tie.Need-sub-if2 Inv-loop μ-loop
-sub-if2 c =
-    omega (arith, c .before .before .before .before .before .before .before .before .before .before .before .before .before .before .before .before .before .before .before .before .before .before .before .before .before .line .ensures .0, c .before .before .before .before .before .before .before .before .before .before .before .before .before .before .before .before .before .before .before .before .before .before .before .before .before .line .kept)
+sub-if2 c = omega (arith, c .before .before .before .before .before .before .before .before .before .before .before .before .before .before .before .before .before .before .before .before .before .before .before .before .before .line .ensures .0, c .before .before .before .before .before .before .before .before .before .before .before .before .before .before .before .before .before .before .before .before .before .before .before .before .before .line .kept)
 
 same-length-15 : tie.Need-same-length-15 Inv-loop μ-loop
 same-length-15 c = search needs
@@ -143,38 +142,37 @@ same-length-16 : tie.Need-same-length-16 Inv-loop μ-loop
 same-length-16 c = search needs
 
 same-length-17 : tie.Need-same-length-17 Inv-loop μ-loop
-same-length-17 c = c .before .before .before .before .before .before .before .before .before .before .before .before .before .before .before .before .next .kept .1 .1 .1 .1 .1 .1 .1 .1 .1 .0 ∙ c .before .before .before .before .before .before .before .before .before .before .before .before .before .before .before .before .before .before .before .before .before .before .before .before .before .before .before .before .before .before .loop .inv .8 .0
+same-length-17 c = c .before .before .before .before .before .before .before .before .before .before .before .before .before .before .before .before .next .kept .1 .1 .1 .1 .1 .1 .0 ∙ c .before .before .before .before .before .before .before .before .before .before .before .before .before .before .before .before .before .before .before .before .before .before .before .before .before .before .before .before .before .before .loop .inv .6 .0
 
 same-length-18 : tie.Need-same-length-18 Inv-loop μ-loop
-same-length-18 c = c .before .before .before .before .before .before .before .before .before .before .before .before .before .before .before .before .next .kept .1 .1 .1 .1 .1 .1 .1 .1 .1 .1 .0 ∙ c .before .before .before .before .before .before .before .before .before .before .before .before .before .before .before .before .before .before .before .before .before .before .before .before .before .before .before .before .before .before .loop .inv .8 .1
+same-length-18 c = c .before .before .before .before .before .before .before .before .before .before .before .before .before .before .before .before .next .kept .1 .1 .1 .1 .1 .1 .1 .0 ∙ c .before .before .before .before .before .before .before .before .before .before .before .before .before .before .before .before .before .before .before .before .before .before .before .before .before .before .before .before .before .before .loop .inv .6 .1
 
 same-length-19 : tie.Need-same-length-19 Inv-loop μ-loop
-same-length-19 c = c .before .before .before .before .before .before .before .before .before .before .before .before .before .before .before .before .next .kept .1 .1 .1 .1 .1 .1 .1 .1 .1 .1 .1 .0 ∙ c .before .before .before .before .before .before .before .before .before .before .before .before .before .before .before .before .before .before .before .before .before .before .before .before .before .before .before .before .before .before .loop .inv .3 .0
+same-length-19 c = c .before .before .before .before .before .before .before .before .before .before .before .before .before .before .before .before .next .kept .1 .1 .1 .1 .1 .1 .1 .1 .0 ∙ c .before .before .before .before .before .before .before .before .before .before .before .before .before .before .before .before .before .before .before .before .before .before .before .before .before .before .before .before .before .before .loop .inv .3 .0
 
 same-length-20 : tie.Need-same-length-20 Inv-loop μ-loop
-same-length-20 c = c .before .before .before .before .before .before .before .before .before .before .before .before .before .before .before .before .next .kept .1 .1 .1 .1 .1 .1 .1 .1 .1 .1 .1 .1 .0 ∙ c .before .before .before .before .before .before .before .before .before .before .before .before .before .before .before .before .before .before .before .before .before .before .before .before .before .before .before .before .before .before .loop .inv .3 .1
+same-length-20 c = c .before .before .before .before .before .before .before .before .before .before .before .before .before .before .before .before .next .kept .1 .1 .1 .1 .1 .1 .1 .1 .1 .0 ∙ c .before .before .before .before .before .before .before .before .before .before .before .before .before .before .before .before .before .before .before .before .before .before .before .before .before .before .before .before .before .before .loop .inv .3 .1
 
 same-length-21 : tie.Need-same-length-21 Inv-loop μ-loop
 same-length-21 c = search needs
 
 returns-3 : tie.Need-returns-3 Inv-loop μ-loop
 returns-3 c =
-    let l = c .before .before .before .before .before .before .before .before .before .before .before .before .before .before .before .before .before .before .before .before .before .before .before .before .before .before .before .before .before .before .loop in
-    let k = c .before .before .before .before .before .before .before .before .before .before .before .before .before .before .before .before .before .before .before .before .before .before .before .before .before .before .line in (
+    let l = c .before .before .before .before .before .before .before .before .before .before .before .before .before .before .before .before .before .before .before .before .before .before .before .before .before .before .before .before .before .before .loop in (
       (search needs, omega (arith, l .inv .0), λ e. omega (arith, l .inv .0, c .before .before .before .before .before .before .before .before .before .before .before .before .before .before .before .before .before .before .before .before .before .before .before .if1 .left)),
-      λ s. (
-        record {
-          lines = line-written s (c .before .before .before .before .before .before .before .before .before .before .before .before .before .before .before .before .before .before .before .before .before .before .before .before .before .before .before .before .before .before .loop .inv .5 s) (c .before .before .before .before .before .before .before .before .before .before .before .before .before .before .before .before .before .before .before .before .before .before .before .before .before .before .before .before .before .before .before .before .before .before .before .before .before .before .before .before .before .before .args .passed) _ _ _ _ (c .before .before .before .before .before .before .before .before .before .before .before .before .before .before .before .before .before .before .before .before .before .before .before .before .before .before .line .ensures .0) (c .before .before .before .before .before .before .before .before .before .before .before .before .before .before .before .before .before .before .before .before .before .before .before .before .before .before .line .ensures .1) (c .before .before .before .before .before .before .before .before .before .before .before .before .before .before .before .before .before .before .before .before .before .before .before .before .before .before .before .before .before .before .loop .inv .6 s);
-          next = λ e. moved-on (s .graph) _ _ _ _ _ _ _ (c .before .before .before .before .before .before .before .before .before .before .before .before .before .before .before .before .next .ensures s (l .last) (l .inv .5 s) .0) (c .before .before .deep .given .1);
-          ended = λ e. absurd (true≢false e);
-        },
-        λ e. c .before .before .before .before .before .before .before .before .before .before .before .before .before .before .before .before .next .ensures s (l .last) (l .inv .5 s) .1 _ (c .before .before .deep .given .1),
-      ),
+      λ g f x s.
+          let y = l .inv .5 g f x s in (
+            record {
+              lines = line-written f (y .0) (c .before .before .before .before .before .before .before .before .before .before .before .before .before .before .before .before .before .before .before .before .before .before .before .before .before .before .before .before .before .before .before .before .before .before .before .before .before .before .before .before .args .passed) _ _ _ _ (c .before .before .before .before .before .before .before .before .before .before .before .before .before .before .before .before .before .before .before .before .before .before .before .before .before .before .line .ensures .0) (c .before .before .before .before .before .before .before .before .before .before .before .before .before .before .before .before .before .before .before .before .before .before .before .before .before .before .line .ensures .1) (y .2);
+              next = λ e. moved-on g _ _ _ _ _ _ _ (c .before .before .before .before .before .before .before .before .before .before .before .before .before .before .before .before .next .ensures g (l .last) f (y .0) (y .1) .0) (c .before .before .deep .given .1);
+              ended = λ e. absurd (true≢false e);
+            },
+            λ e. c .before .before .before .before .before .before .before .before .before .before .before .before .before .before .before .before .next .ensures g (l .last) f (y .0) (y .1) .1 _ (c .before .before .deep .given .1),
+          ),
     )
 
 loop-less : tie.Need-loop-less Inv-loop μ-loop
-loop-less c =
-    omega (arith, c .before .before .before .before .before .before .before .before .before .before .before .before .before .before .before .before .before .before .before .before .before .before .before .before .before .before .before .before .before .before .loop .inv .0)
+loop-less c = omega (arith, c .before .before .before .before .before .before .before .before .before .before .before .before .before .before .before .before .before .before .before .before .before .before .before .before .before .before .before .before .before .before .loop .inv .0)
 
 loop-again : tie.Need-loop-again Inv-loop μ-loop
 loop-again c =
@@ -182,12 +180,16 @@ loop-again c =
       (omega (arith, l .inv .0), omega (arith, l .inv .0, c .before .before .before .before .before .before .before .before .before .before .before .before .before .before .before .before .before .before .before .before .before .before .before .if1 .left)),
       search needs,
       (search needs, search needs),
-      (c .before .before .before .before .before .before .before .before .before .before .before .before .before .before .before .before .next .kept .1 .1 .1 .1 .1 .1 .1 .1 .1 .1 .1 .0 ∙ c .before .before .before .before .before .before .before .before .before .before .before .before .before .before .before .before .before .before .before .before .before .before .before .before .before .before .before .before .before .before .loop .inv .3 .0, c .before .before .before .before .before .before .before .before .before .before .before .before .before .before .before .before .next .kept .1 .1 .1 .1 .1 .1 .1 .1 .1 .1 .1 .1 .0 ∙ c .before .before .before .before .before .before .before .before .before .before .before .before .before .before .before .before .before .before .before .before .before .before .before .before .before .before .before .before .before .before .loop .inv .3 .1),
+      (c .before .before .before .before .before .before .before .before .before .before .before .before .before .before .before .before .next .kept .1 .1 .1 .1 .1 .1 .1 .1 .0 ∙ l .inv .3 .0, c .before .before .before .before .before .before .before .before .before .before .before .before .before .before .before .before .next .kept .1 .1 .1 .1 .1 .1 .1 .1 .1 .0 ∙ l .inv .3 .1),
       search needs,
-      λ s. moved-on (s .graph) _ _ _ _ _ _ _ (c .before .before .before .before .before .before .before .before .before .before .before .before .before .before .before .before .next .ensures s (l .last) (l .inv .5 s) .0) (c .before .before .deep .given .1),
-      λ s. line-written s (c .before .before .before .before .before .before .before .before .before .before .before .before .before .before .before .before .before .before .before .before .before .before .before .before .before .before .before .before .before .before .loop .inv .5 s) (c .before .before .before .before .before .before .before .before .before .before .before .before .before .before .before .before .before .before .before .before .before .before .before .before .before .before .before .before .before .before .before .before .before .before .before .before .before .before .before .before .before .before .args .passed) _ _ _ _ (c .before .before .before .before .before .before .before .before .before .before .before .before .before .before .before .before .before .before .before .before .before .before .before .before .before .before .line .ensures .0) (c .before .before .before .before .before .before .before .before .before .before .before .before .before .before .before .before .before .before .before .before .before .before .before .before .before .before .line .ensures .1) (c .before .before .before .before .before .before .before .before .before .before .before .before .before .before .before .before .before .before .before .before .before .before .before .before .before .before .before .before .before .before .loop .inv .6 s),
-      λ s. c .before .before .before .before .before .before .before .before .before .before .before .before .before .before .before .before .next .ensures s (l .last) (l .inv .5 s) .1 _ (c .before .before .deep .given .1),
-      (c .before .before .before .before .before .before .before .before .before .before .before .before .before .before .before .before .next .kept .1 .1 .1 .1 .1 .1 .1 .1 .1 .0 ∙ c .before .before .before .before .before .before .before .before .before .before .before .before .before .before .before .before .before .before .before .before .before .before .before .before .before .before .before .before .before .before .loop .inv .8 .0, c .before .before .before .before .before .before .before .before .before .before .before .before .before .before .before .before .next .kept .1 .1 .1 .1 .1 .1 .1 .1 .1 .1 .0 ∙ c .before .before .before .before .before .before .before .before .before .before .before .before .before .before .before .before .before .before .before .before .before .before .before .before .before .before .before .before .before .before .loop .inv .8 .1),
+      λ g f x s.
+          let y = l .inv .5 g f x s in
+          let z = c .before .before .before .before .before .before .before .before .before .before .before .before .before .before .before .before .next .ensures g (l .last) f (y .0) (y .1) in (
+            moved-on g _ _ _ _ _ _ _ (z .0) (c .before .before .deep .given .1),
+            z .1 _ (c .before .before .deep .given .1),
+            line-written f (y .0) (c .before .before .before .before .before .before .before .before .before .before .before .before .before .before .before .before .before .before .before .before .before .before .before .before .before .before .before .before .before .before .before .before .before .before .before .before .before .before .before .before .args .passed) _ _ _ _ (c .before .before .before .before .before .before .before .before .before .before .before .before .before .before .before .before .before .before .before .before .before .before .before .before .before .before .line .ensures .0) (c .before .before .before .before .before .before .before .before .before .before .before .before .before .before .before .before .before .before .before .before .before .before .before .before .before .before .line .ensures .1) (y .2),
+          ),
+      (c .before .before .before .before .before .before .before .before .before .before .before .before .before .before .before .before .next .kept .1 .1 .1 .1 .1 .1 .0 ∙ l .inv .6 .0, c .before .before .before .before .before .before .before .before .before .before .before .before .before .before .before .before .next .kept .1 .1 .1 .1 .1 .1 .1 .0 ∙ l .inv .6 .1),
     )
 
 pub fill-spec : {M : Type 1} → statement M

@@ -14,7 +14,7 @@ slice-aggregate-reading-line : tie.Need-slice-aggregate-reading-line
 slice-aggregate-reading-line c = search needs
 
 reading-line-requires : tie.Need-reading-line-requires
-reading-line-requires c κs = (c .before .before .before .before .before .before .before .before .pre .1, search needs, c .before .before .before .before .before .before .before .before .pre .3)
+reading-line-requires c κs = (c .before .before .before .before .before .before .before .before .pre .1, search needs, c .before .before .before .before .before .before .before .before .pre .2)
 
 same-length : tie.Need-same-length
 same-length c = search needs
@@ -25,7 +25,7 @@ returns c =
     let r = c .before .before .reading-line in
     let p = c .before .before .before .before .before .before .settle in (
       r .ensures .1,
-      λ g x u. settled-line g x _ _ _ _ _ _ (p .ensures .1 g x u) (r .ensures .0),
+      λ g are x. settled-line g are _ _ _ _ _ _ (p .ensures .1 g x) (r .ensures .0),
     )
 
 pub line-spec : {M : Type 1} → statement M

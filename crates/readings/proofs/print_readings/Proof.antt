@@ -5,12 +5,13 @@ use mathlib.Core.Bool.{Bool, true, false, cond}
 use native.Mathlib.Omega.{arith}
 use lib.ListN.{length, length-replicate}
 use lib.Seq.{length-take-le}
-use borrow.Author.Needs.{needs}
 use Rattle.graph.specs.Order.{limit}
-use Rattle.walk.specs.Given.{Sheet}
-use Rattle.walk.specs.States.{Stands}
-use Rattle.walk.specs.Levels.{Saved}
+use Rattle.halves.specs.Given.{Sheet}
+use Rattle.halves.specs.Levels.{Saved}
+use Rattle.halves.specs.States.{Stands}
+use Rattle.walk.proofs.Walked.{walked-of}
 use Rattle.numbered.proofs.Numbers.{room}
+use borrow.Author.Needs.{needs}
 use Rattle.readings.proofs.print_readings.Statement.{statement}
 use Rattle.readings.proofs.print_readings.Tie as tie
 
@@ -21,11 +22,11 @@ fewer-left more false passed last e h on f = rw e (omega arith)
 
 abbrev Inv-loop : tie.InvT-loop
 Inv-loop parent owner n leaves roots base-low base-high low₀ high₀ saved-low₀ saved-high₀ uppers₀ lowers₀ depth₀ out₀ passed₀ more₀ low high saved-low saved-high uppers lowers depth out passed more =
-    ((length low ≡ 128) × (length high ≡ 128))
+    ((length low ≡ 257) × (length high ≡ 257))
     × ((length uppers ≡ 16384) × (length lowers ≡ 16384))
     × (length out ≡ 262144)
     × (more ≡ true → (passed < limit) × ((s : Sheet n parent owner leaves roots base-low base-high) → Stands (s .graph) uppers lowers low high depth passed × Saved (s .graph) uppers lowers saved-low saved-high depth))
-    × ((length saved-low ≡ 4096) × (length saved-high ≡ 4096))
+    × ((length saved-low ≡ 6168) × (length saved-high ≡ 6168))
 
 abbrev μ-loop : tie.MeasureT-loop
 μ-loop parent owner n leaves roots base-low base-high low₀ high₀ saved-low₀ saved-high₀ uppers₀ lowers₀ depth₀ out₀ passed₀ more₀ low high saved-low saved-high uppers lowers depth out passed more = cond more (limit - passed) 0
@@ -81,10 +82,13 @@ fill-requires : tie.Need-fill-requires Inv-loop μ-loop
 fill-requires c κs =
     let l = c .before .before .before .before .before .before .before .before .loop in
     let p = c .before .before .before .before .before .before .before .before .before .before .before .before .before .before .before .before .before .before .before .before .before .before .before .before .before .before .pre in
-    (p, (((l .inv .0 .0, l .inv .0 .1), (omega (arith, room p, l .inv .1 .0), omega (arith, room p, l .inv .1 .1)), l .inv .3 (c .before .before .before .before .before .before .before .loop-test .taken) .0, omega (arith, l .inv .2)), l .inv .3 (c .before .before .before .before .before .before .before .loop-test .taken) .1))
+    let x = l .inv .3 (c .before .before .before .before .before .before .before .loop-test .taken) in
+    (record { walked = walked-of p; stands = x .1 p .0; saved = x .1 p .1 }, ((omega (arith, room p, l .inv .1 .0), omega (arith, room p, l .inv .1 .1)), x .0, omega (arith, l .inv .2)))
 
 print-total-requires : tie.Need-print-total-requires Inv-loop μ-loop
-print-total-requires c κs = (c .before .before .before .before .before .before .before .before .before .before .before .before .before .before .before .before .before .before .before .before .before .before .before .before .before .before .before .before .before .before .before .before .before .before .pre, λ s. c .before .before .before .before .before .before .before .fill .ensures .1 s .0 .ended)
+print-total-requires c κs =
+    let x = c .before .before .before .before .before .before .before .before .before .before .before .before .before .before .before .before .loop .inv .3 (c .before .before .before .before .before .before .before .before .before .before .before .before .before .before .before .loop-test .taken) in
+    (c .before .before .before .before .before .before .before .before .before .before .before .before .before .before .before .before .before .before .before .before .before .before .before .before .before .before .before .before .before .before .before .before .before .before .pre, λ s. c .before .before .before .before .before .before .before .fill .ensures .1 (s .graph) (s .fits) (x .1 s .0) (x .1 s .1) .0 .ended)
 
 array-share-prefix-out : tie.Need-array-share-prefix-out Inv-loop μ-loop
 array-share-prefix-out c = c .before .before .before .before .before .before .before .before .fill .ensures .0 .0
@@ -105,7 +109,8 @@ loop-less c =
 loop-again : tie.Need-loop-again Inv-loop μ-loop
 loop-again c =
     let f = c .before .before .before .before .before .before .before .before .before .before .fill in
-    ((search needs, search needs), (search needs, search needs), search needs, λ e. (f .ensures .0 .2 e, λ s. (f .ensures .1 s .0 .next e, f .ensures .1 s .1 e)), (search needs, search needs))
+    let x = c .before .before .before .before .before .before .before .before .before .before .before .before .before .before .before .before .before .before .before .loop .inv .3 (c .before .before .before .before .before .before .before .before .before .before .before .before .before .before .before .before .before .before .loop-test .taken) in
+    ((search needs, search needs), (search needs, search needs), search needs, λ e. (f .ensures .0 .2 e, λ s. let page = f .ensures .1 (s .graph) (s .fits) (x .1 s .0) (x .1 s .1) in (page .0 .next e, page .1 e)), (search needs, search needs))
 
 returns : tie.Need-returns Inv-loop μ-loop
 returns c = search needs

@@ -27,10 +27,16 @@ returns : tie.Need-returns
 returns c =
     let a = c .before .before .before .before .before .before .before .args in
     let e = c .before .before .settle .ensures in
-    let h : a .at ≤ length (now (a .out)) = omega (arith, c .before .before .before .before .before .before .before .pre .3) in
-    (row-rest (a .at) (a .n) (now (a .out)) _ h (e .0), λ g x u. row-first (a .at) (a .n) (now (a .out)) _ h _ (e .1 g x u))
+    let h : a .at ≤ length (now (a .out)) = omega (arith, c .before .before .before .before .before .before .before .pre .2) in
+    (row-rest (a .at) (a .n) (now (a .out)) _ h (e .0), λ g x. row-first (a .at) (a .n) (now (a .out)) _ h _ (e .1 g x))
 
 pub row-spec : {M : Type 1} → statement M
 row-spec =
     tie.close
-    (tie.spec sub-settle part-settle-start part-settle-end settle-requires same-length returns)
+    (tie.spec
+    sub-settle
+    part-settle-start
+    part-settle-end
+    settle-requires
+    same-length
+    returns)

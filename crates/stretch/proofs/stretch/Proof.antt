@@ -1,6 +1,7 @@
 -- The walk goes to the first reading wanted and on from there.
 use mathlib.Core.Logic.{inr}
 use native.Mathlib.Omega.{arith}
+use Rattle.walk.proofs.Walked.{walked-of}
 use Rattle.numbered.proofs.Numbers.{room}
 use Rattle.stretch.proofs.Placings.{past-limit, none-left, next-stands}
 use borrow.Author.Needs.{needs}
@@ -64,11 +65,8 @@ slice-aggregate-fill-6 c = search needs
 fill-requires : tie.Need-fill-requires
 fill-requires c κs =
     let s = c .before .before .before .before .before .before .before .before .before .before .before .before .before .before .before .before .before .before .before .before .before .before .before .before .before .before .before .before .before .pre .0 in (
-      s,
-      (
-        ((search needs, search needs), (omega (arith, room s, c .before .before .before .before .before .before .before .before .before .before .before .before .before .before .before .before .reach .kept), omega (arith, room s, c .before .before .before .before .before .before .before .before .before .before .before .before .before .before .before .before .reach .kept)), omega (arith, c .before .before .before .before .before .before .before .before .before .before .before .before .before .before .before .before .before .before .before .before .before .before .before .if1 .left), c .before .before .before .before .before .before .before .before .before .before .before .before .before .before .before .before .before .before .before .before .before .before .before .before .before .before .before .before .before .pre .1),
-        λ h. (next-stands (h .graph) _ _ _ _ _ _ (c .before .before .before .before .before .before .before .before .before .before .before .before .before .before .before .before .reach .ensures h .0) (c .before .before .before .before .before .before .before .before .depth .given .1), c .before .before .before .before .before .before .before .before .before .before .before .before .before .before .before .before .reach .ensures h .1 _ (c .before .before .before .before .before .before .before .before .depth .given .1)),
-      ),
+      record { walked = walked-of s; stands = next-stands (s .graph) _ _ _ _ _ _ (c .before .before .before .before .before .before .before .before .before .before .before .before .before .before .before .before .reach .ensures s .0) (c .before .before .before .before .before .before .before .before .depth .given .1); saved = c .before .before .before .before .before .before .before .before .before .before .before .before .before .before .before .before .reach .ensures s .1 _ (c .before .before .before .before .before .before .before .before .depth .given .1) },
+      ((omega (arith, room s, c .before .before .before .before .before .before .before .before .before .before .before .before .before .before .before .before .reach .kept), omega (arith, room s, c .before .before .before .before .before .before .before .before .before .before .before .before .before .before .before .before .reach .kept)), omega (arith, c .before .before .before .before .before .before .before .before .before .before .before .before .before .before .before .before .before .before .before .before .before .before .before .if1 .left), c .before .before .before .before .before .before .before .before .before .before .before .before .before .before .before .before .before .before .before .before .before .before .before .before .before .before .before .before .before .pre .1),
     )
 
 returns-2 : tie.Need-returns-2
@@ -80,7 +78,7 @@ same-length c = search needs
 
 returns-3 : tie.Need-returns-3
 returns-3 c =
-    λ s. inr (c .before .before .before .before .before .before .before .before .fill .ensures s)
+    λ s. inr (c .before .before .before .before .before .before .before .before .fill .ensures (s .graph) (s .fits) (next-stands (s .graph) _ _ _ _ _ _ (c .before .before .before .before .before .before .before .before .before .before .before .before .before .before .before .before .before .before .before .before .before .before .before .before .before .reach .ensures s .0) (c .before .before .before .before .before .before .before .before .before .before .before .before .before .before .before .before .before .depth .given .1)) (c .before .before .before .before .before .before .before .before .before .before .before .before .before .before .before .before .before .before .before .before .before .before .before .before .before .reach .ensures s .1 _ (c .before .before .before .before .before .before .before .before .before .before .before .before .before .before .before .before .before .depth .given .1)))
 
 pub stretch-spec : {M : Type 1} → statement M
 stretch-spec =

@@ -1,90 +1,64 @@
--- The lowest forked root, and its two lowest leaves.
-use denote.Ref.{now}
-use Prim.Native.Nat.{_<_}
+-- The lowest fork, and the two lowest of its leaves.
 use native.Mathlib.Omega.{arith}
-use Rattle.fork.proofs.Forks.{unforked, first-there, second-there, chosen}
+use denote.Ref.{now}
+use Rattle.fork.proofs.Choices.{lowest-below, unforked, second-there, chosen}
 use borrow.Author.Needs.{needs}
 use Rattle.fork.proofs.choose.choose.Statement.{statement}
 use Rattle.fork.proofs.choose.choose.Tie as tie
 
-forked-roots-requires : tie.Need-forked-roots-requires
-forked-roots-requires c κs = search needs
+add-set-at : tie.Need-add-set-at
+add-set-at c = search needs
+
+set-at-requires : tie.Need-set-at-requires
+set-at-requires c κs =
+    let p = c .before .before .pre in
+    (omega (arith, p .0 .0, p .1), omega (arith, p .0 .1, p .1))
 
 lowest-requires : tie.Need-lowest-requires
 lowest-requires c κs = search needs
 
 returns : tie.Need-returns
 returns c =
-    let v = c .before in
-    let f = v .before .forked-roots in
-    let a = v .before .before .before .before .args in
-    (tt, λ g is. unforked g (a .n) (a .leaves) (a .roots) (now (a .low)) (now (a .high)) is (f .result) (v .lowest .result) (f .ensures) (v .lowest .ensures) (c .if1 .taken))
+    let a = c .before .before .before .before .before .args in
+    (tt, λ g is. unforked g (a .n) (now (a .low)) (now (a .high)) is (c .before .before .set-at .result) (c .before .before .set-at .ensures) (c .before .lowest .result) (c .before .lowest .ensures) (c .if1 .taken))
 
-from-edge-requires : tie.Need-from-edge-requires
-from-edge-requires c κs = search needs
+add-set-at-2 : tie.Need-add-set-at-2
+add-set-at-2 c = search needs
+
+set-at-requires-2 : tie.Need-set-at-requires-2
+set-at-requires-2 c κs =
+    let p = c .before .before .before .before .before .pre in
+    (omega (arith, p .0 .0, p .1, c .if1 .left), omega (arith, p .0 .1, p .1, c .if1 .left))
+
+second-requires : tie.Need-second-requires
+second-requires c κs = search needs
+
+returns-2 : tie.Need-returns-2
+returns-2 c =
+    let a = c .before .before .before .before .before .before .before .before .args in
+    (tt, λ g is. absurd (second-there g (a .n) (now (a .low)) (now (a .high)) is (c .before .before .before .before .before .set-at .result) (c .before .before .before .before .before .set-at .ensures) (c .before .before .before .before .lowest .result) (c .before .before .before .before .lowest .ensures) (c .before .before .before .if1 .left) (c .before .before .set-at2 .result) (c .before .before .set-at2 .ensures) (c .before .second .result) (c .before .second .ensures) (c .if2 .taken)))
 
 lowest-requires-2 : tie.Need-lowest-requires-2
 lowest-requires-2 c κs = search needs
 
-returns-2 : tie.Need-returns-2
-returns-2 c =
-    let x = c .before in
-    let e = x .before .from-edge in
-    let v = x .before .before .before in
-    let f = v .before .forked-roots in
-    let s = v .before .before .before .before in
-    let a = s .args in
-    let within : v .lowest .result < 128 = omega (arith, s .pre .1) in
-    (tt, λ g is. absurd (first-there g (a .n) (a .leaves) (a .roots) (now (a .low)) (now (a .high)) is (f .result) (v .lowest .result) (f .ensures) (v .lowest .ensures) (e .result) (x .lowest2 .result) (e .ensures) (x .lowest2 .ensures) within (c .if2 .taken)))
-
-without-requires : tie.Need-without-requires
-without-requires c κs = search needs
-
-from-edge-requires-2 : tie.Need-from-edge-requires-2
-from-edge-requires-2 c κs = search needs
-
-lowest-requires-3 : tie.Need-lowest-requires-3
-lowest-requires-3 c κs = search needs
-
 returns-3 : tie.Need-returns-3
 returns-3 c =
-    let y = c .before in
-    let d = y .before .from-edge2 in
-    let w = y .before .before in
-    let x = w .before .before in
-    let e = x .before .from-edge in
-    let v = x .before .before .before in
-    let f = v .before .forked-roots in
-    let s = v .before .before .before .before in
-    let a = s .args in
-    let within : v .lowest .result < 128 = omega (arith, s .pre .1) in
-    (tt, λ g is. absurd (second-there g (a .n) (a .leaves) (a .roots) (now (a .low)) (now (a .high)) is (f .result) (v .lowest .result) (f .ensures) (v .lowest .ensures) (e .result) (x .lowest2 .result) (e .ensures) (x .lowest2 .ensures) (w .without .result) (d .result) (y .lowest3 .result) (w .without .ensures) (d .ensures) (y .lowest3 .ensures) within (c .if3 .taken)))
-
-returns-4 : tie.Need-returns-4
-returns-4 c =
-    let y = c .before in
-    let d = y .before .from-edge2 in
-    let w = y .before .before in
-    let x = w .before .before in
-    let e = x .before .from-edge in
-    let v = x .before .before .before in
-    let f = v .before .forked-roots in
-    let s = v .before .before .before .before in
-    let a = s .args in
-    ((omega arith, omega arith, omega arith), λ g is. chosen g (a .n) (a .leaves) (a .roots) (now (a .low)) (now (a .high)) is (f .result) (v .lowest .result) (f .ensures) (v .lowest .ensures) (e .result) (x .lowest2 .result) (e .ensures) (x .lowest2 .ensures) (w .without .result) (d .result) (y .lowest3 .result) (w .without .ensures) (d .ensures) (y .lowest3 .ensures) (omega (arith, s .pre .1)) (omega (arith, s .pre .1)))
+    let a = c .before .before .before .before .before .before .before .before .before .args in (
+      (c .before .before .before .before .if1 .left, omega (arith, lowest-below (c .before .before .before .set-at2 .result) (c .before .before .second .result) (c .before .before .second .ensures) (omega (arith, c .before .if2 .left, c .before .before .before .before .before .before .before .before .before .pre .1)), c .lowest2 .ensures, c .before .if2 .left), c .before .if2 .left),
+      λ g is. chosen g (a .n) (now (a .low)) (now (a .high)) is (c .before .before .before .before .before .before .set-at .result) (c .before .before .before .before .before .before .set-at .ensures) (c .before .before .before .before .before .lowest .result) (c .before .before .before .before .before .lowest .ensures) (c .before .before .before .before .if1 .left) (c .before .before .before .set-at2 .result) (c .before .before .before .set-at2 .ensures) (c .before .before .second .result) (c .before .before .second .ensures) (c .lowest2 .result) (c .lowest2 .ensures),
+    )
 
 pub choose-spec : {M : Type 1} → statement M
 choose-spec =
     tie.close
     (tie.spec
-    forked-roots-requires
+    add-set-at
+    set-at-requires
     lowest-requires
     returns
-    from-edge-requires
-    lowest-requires-2
+    add-set-at-2
+    set-at-requires-2
+    second-requires
     returns-2
-    without-requires
-    from-edge-requires-2
-    lowest-requires-3
-    returns-3
-    returns-4)
+    lowest-requires-2
+    returns-3)

@@ -1,9 +1,9 @@
 -- The invariant: a graph that the choices so far lead to, and turns enough for those that are left.
 use Prim.Native.Nat.{_+_, _*_, _≤_}
-use mathlib.Core.Path.{_≡_}
 use native.Mathlib.Omega.{arith}
-use lib.ListN.{length, take}
+use lib.ListN.{take}
 use Rattle.graph.specs.Graph.{Graph}
+use Rattle.fork.specs.Reduced.{Wide}
 use Rattle.placings.specs.Guide.{Standing}
 use native.Mathlib.Nat.{mul-le-mul}
 use Rattle.placings.proofs.Shapes.{not-true, not-false}
@@ -13,15 +13,14 @@ use Rattle.placings.proofs.guide.follow.Statement.{statement}
 use Rattle.placings.proofs.guide.follow.Tie as tie
 
 abbrev Inv-loop : tie.InvT-loop
-Inv-loop parent n leaves roots under-low under-high placing low₀ high₀ left₀ low high left =
-    (length low ≡ 128)
-    × (length high ≡ 128)
+Inv-loop parent n roots under-low under-high placing low₀ high₀ left₀ low high left =
+    Wide low high
     × (left ≤ n * n + 1)
-    × ((g : Graph) → Standing g (take n placing) n parent leaves roots under-low under-high (n * n + 1) low₀ high₀ →
-    Standing g (take n placing) n parent leaves roots under-low under-high left low high)
+    × ((g : Graph) → Standing g (take n placing) n parent roots under-low under-high (n * n + 1) low₀ high₀ →
+    Standing g (take n placing) n parent roots under-low under-high left low high)
 
 abbrev μ-loop : tie.MeasureT-loop
-μ-loop parent n leaves roots under-low under-high placing low₀ high₀ left₀ low high left = left
+μ-loop parent n roots under-low under-high placing low₀ high₀ left₀ low high left = left
 
 mul-left : tie.Need-mul-left Inv-loop μ-loop
 mul-left c = omega (arith, mul-le-mul (c .before .before .before .before .before .before .pre .0 .0 .few) (c .before .before .before .before .before .before .pre .0 .0 .few))
@@ -30,7 +29,7 @@ add-left : tie.Need-add-left Inv-loop μ-loop
 add-left c = omega (arith, mul-le-mul (c .before .before .before .before .before .before .pre .0 .0 .few) (c .before .before .before .before .before .before .pre .0 .0 .few))
 
 loop-holds : tie.Need-loop-holds Inv-loop μ-loop
-loop-holds c = (search needs, search needs, omega arith, λ g st. st)
+loop-holds c = ((search needs, search needs), omega arith, λ g st. st)
 
 turn-requires : tie.Need-turn-requires Inv-loop μ-loop
 turn-requires c κs = search needs
@@ -48,8 +47,8 @@ returns : tie.Need-returns Inv-loop μ-loop
 returns c =
     let l = c .before .before .before .before .before .before .before .before .before .before .before .before .loop in
     λ g st s f.
-    let end = c .before .before .before .before .before .before .before .before .turn .ensures g _ (l .left) (l .inv .3 g st) .1 (not-true (c .before .before .before .before .before .before .before .before .turn .result) (c .before .before .before .if1 .taken)) in
-    reads (c .settles .result) end (c .settles .ensures (end .graph) (end .given) (end .unforked)) s f
+    let end = c .before .before .before .before .before .before .before .before .turn .ensures g _ (l .left) (l .inv .2 g st) .1 (not-true (c .before .before .before .before .before .before .before .before .turn .result) (c .before .before .before .if1 .taken)) in
+    reads (c .settles .result) end (c .settles .ensures (end .graph) (end .given)) s f
 
 sub-left : tie.Need-sub-left Inv-loop μ-loop
 sub-left c = search needs
@@ -60,10 +59,9 @@ loop-less c = search needs
 loop-again : tie.Need-loop-again Inv-loop μ-loop
 loop-again c =
     let l = c .before .before .before .before .before .before .before .before .before .loop in (
-      search needs,
-      search needs,
+      (search needs, search needs),
       omega arith,
-      λ g st. c .before .before .before .before .before .turn .ensures g _ (l .left) (l .inv .3 g st) .0 (not-false (c .before .before .before .before .before .turn .result) (c .if1 .left)),
+      λ g st. c .before .before .before .before .before .turn .ensures g _ (l .left) (l .inv .2 g st) .0 (not-false (c .before .before .before .before .before .turn .result) (c .if1 .left)),
     )
 
 same-length-3 : tie.Need-same-length-3 Inv-loop μ-loop
@@ -75,7 +73,7 @@ same-length-4 c = search needs
 returns-2 : tie.Need-returns-2 Inv-loop μ-loop
 returns-2 c =
     let l = c .before .loop in
-    λ g st s f. absurd (not-over (l .inv .3 g st) (omega arith))
+    λ g st s f. absurd (not-over (l .inv .2 g st) (omega arith))
 
 pub follow-spec : {M : Type 1} → statement M
 follow-spec =

@@ -18,8 +18,8 @@ same-requires c κs = search needs
 
 returns : tie.Need-returns
 returns c =
-    λ h is o.
-    let e = c .before .before .before .settle .ensures .1 h is o in
+    λ h is.
+    let e = c .before .before .before .settle .ensures .1 h is in
     (λ t. sym e ∙ c .same .ensures .0 t, λ i. c .same .ensures .1 (e ∙ i))
 
 pub settles-spec : {M : Type 1} → statement M

@@ -29,8 +29,8 @@ half-requires c κs =
     let b = bounds-there (c .before .before .before .before .before .before .before .before .before .before .before .args .n) (c .before .v .given .1) (c .before .before .before .choose .ensures .0) in
     (c .before .before .before .before .before .before .before .before .before .before .before .pre .0, (search needs, search needs), b .1, b .2)
 
-add-edge-requires : tie.Need-add-edge-requires
-add-edge-requires c κs = search needs
+add-requires : tie.Need-add-requires
+add-requires c κs = search needs
 
 same-length-3 : tie.Need-same-length-3
 same-length-3 c = search needs
@@ -41,10 +41,9 @@ same-length-4 c = search needs
 returns-2 : tie.Need-returns-2
 returns-2 c =
     let next = c .before .before .before .before .before .before .before .half in
-    let found = c .before .before .before .before .before .before .before .before .before .v .given in
     λ g p k st.
-    let pick = choice-there (st .graph) (found .1) (c .before .before .before .before .before .before .before .before .before .before .before .choose .ensures .1 (st .graph) (st .given)) in (
-      λ e. turned st _ _ _ (next .result) (next .ensures .0 .0) pick (next .ensures .1 (st .graph) p _ (st .given .shaped) (st .tree) (st .under) pick (st .solved)) (c .before .before .before .before .add-edge .ensures),
+    let pick = choice-there (st .graph) (c .before .before .before .before .before .before .before .before .before .v .given .1) (c .before .before .before .before .before .before .before .before .before .before .before .choose .ensures .1 (st .graph) (st .given)) in (
+      λ e. turned st _ _ _ (next .result) pick (next .ensures .1 (st .graph) p _ (st .given .shaped) (st .tree) (st .under) pick (st .solved)) (c .before .before .before .before .add .ensures),
       λ e. absurd (true≢false e),
     )
 
@@ -59,7 +58,7 @@ turn-spec =
     same-length-2
     returns
     half-requires
-    add-edge-requires
+    add-requires
     same-length-3
     same-length-4
     returns-2)

@@ -1,18 +1,19 @@
 -- Out of the half, and on to the next reading.
 use native.Mathlib.Omega.{arith}
 use denote.Ref.{now}
-use Rattle.walk.proofs.Fitting.{owners-table, valid-within}
-use Rattle.walk.proofs.Saved.{saved-there, same-move, end-not-to}
+use Rattle.halves.proofs.Fitting.{owners-table, valid-within}
+use Rattle.halves.proofs.Saved.{saved-there}
+use Rattle.walk.proofs.Moved.{same-move, end-not-to}
 use borrow.Author.Needs.{needs}
 use Rattle.walk.proofs.steps.advance.Statement.{statement}
 use Rattle.walk.proofs.steps.advance.Tie as tie
 
 leave-requires : tie.Need-leave-requires
 leave-requires c κs =
-    let a = c .before .before .before .before .before .before .before .before .before .before .before .before .before .before .before .before .args in
-    let h = c .before .before .before .before .before .before .before .before .before .before .before .before .before .before .before .before .pre .0 .sheet in (
-      (h .parents-table, owners-table (h .owners-long) (h .fits .owned), (h .rows .low-long, h .rows .high-long), c .before .before .before .before .before .before .before .before .before .before .before .before .before .before .before .before .pre .1 .0, c .before .before .before .before .before .before .before .before .before .before .before .before .before .before .before .before .pre .0 .saved .long),
-      valid-within (h .graph) (a .n) (now (a .owner)) (now (a .uppers)) (now (a .lowers)) (h .fits .owned) (a .depth) (c .before .before .before .before .before .before .before .before .before .before .before .before .before .before .before .before .pre .1 .1) (c .before .before .before .before .before .before .before .before .before .before .before .before .before .before .before .before .pre .0 .leaving .valid),
+    let a = c .before .before .before .before .before .before .before .before .before .before .before .before .before .before .args in
+    let h = c .before .before .before .before .before .before .before .before .before .before .before .before .before .before .pre .0 .walked in (
+      (h .parents-table, owners-table (h .owners-long) (h .fits .owned), c .before .before .before .before .before .before .before .before .before .before .before .before .before .before .pre .1 .0, c .before .before .before .before .before .before .before .before .before .before .before .before .before .before .pre .0 .saved .long),
+      valid-within (h .graph) (a .n) (now (a .owner)) (now (a .uppers)) (now (a .lowers)) (a .roots) (h .fits .owned) (a .depth) (c .before .before .before .before .before .before .before .before .before .before .before .before .before .before .pre .1 .1) (c .before .before .before .before .before .before .before .before .before .before .before .before .before .before .pre .0 .leaving .valid),
     )
 
 enum-known-turned : tie.Need-enum-known-turned
@@ -41,22 +42,17 @@ same-length-6 c = search needs
 
 returns : tie.Need-returns
 returns c =
-    λ h k x sv. (rw (c .enum-told .given .1) at (c .before .before .before .before .before .before .before .before .before .before .leave .ensures (h .graph) k (h .fits) (h .rows) x sv .0), λ deep is. absurd (end-not-to is))
+    λ g k f x sv. (rw (c .enum-told .given .1) at (c .before .before .before .before .before .before .before .before .before .before .leave .ensures g k f x sv .0), λ deep is. absurd (end-not-to is))
 
 enter-requires : tie.Need-enter-requires
 enter-requires c κs =
-    let h = c .before .before .before .before .before .before .before .before .before .before .before .before .before .before .before .before .before .before .before .before .before .before .before .before .before .before .before .before .before .before .before .before .before .before .pre .0 .sheet in
-    let e = c .before .before .before .before .before .before .before .before .before .before .before .before .before .before .before .before .before .leave .ensures in (
+    let h = c .before .before .before .before .before .before .before .before .before .before .before .before .before .before .before .before .before .before .before .before .before .before .before .before .before .before .before .before .before .before .before .before .pre .0 .walked in (
       record {
-        graph = h .graph;
-        passed = c .before .before .before .before .before .before .before .before .before .before .before .before .before .before .before .before .before .before .before .before .before .before .before .before .before .before .before .before .before .before .before .before .before .before .pre .0 .passed;
-        parents-table = h .parents-table;
-        owners-long = h .owners-long;
-        fits = h .fits;
-        ends = h .ends;
-        enters = rw (c .before .before .before .before .before .before .before .turned .given .1) at (e (h .graph) (c .before .before .before .before .before .before .before .before .before .before .before .before .before .before .before .before .before .before .before .before .before .before .before .before .before .before .before .before .before .before .before .before .before .before .pre .0 .passed) (h .fits) (h .rows) (c .before .before .before .before .before .before .before .before .before .before .before .before .before .before .before .before .before .before .before .before .before .before .before .before .before .before .before .before .before .before .before .before .before .before .pre .0 .leaving) (c .before .before .before .before .before .before .before .before .before .before .before .before .before .before .before .before .before .before .before .before .before .before .before .before .before .before .before .before .before .before .before .before .before .before .pre .0 .saved) .0);
+        walked = h;
+        passed = c .before .before .before .before .before .before .before .before .before .before .before .before .before .before .before .before .before .before .before .before .before .before .before .before .before .before .before .before .before .before .before .before .pre .0 .passed;
+        enters = rw (c .before .before .before .before .before .before .before .turned .given .1) at (c .before .before .before .before .before .before .before .before .before .before .before .before .before .before .before .before .before .leave .ensures (h .graph) (c .before .before .before .before .before .before .before .before .before .before .before .before .before .before .before .before .before .before .before .before .before .before .before .before .before .before .before .before .before .before .before .before .pre .0 .passed) (h .fits) (c .before .before .before .before .before .before .before .before .before .before .before .before .before .before .before .before .before .before .before .before .before .before .before .before .before .before .before .before .before .before .before .before .pre .0 .leaving) (c .before .before .before .before .before .before .before .before .before .before .before .before .before .before .before .before .before .before .before .before .before .before .before .before .before .before .before .before .before .before .before .before .pre .0 .saved) .0);
       },
-      ((omega (arith, c .before .before .before .before .before .before .before .before .before .before .before .before .before .before .before .before .before .before .before .before .before .before .before .before .before .before .before .before .before .before .before .before .before .before .pre .1 .1 .0, c .before .before .before .before .before .before .before .before .before .before .before .before .before .before .before .before .before .leave .kept .1 .1 .1 .1 .1 .1 .1 .1 .1 .0), omega (arith, c .before .before .before .before .before .before .before .before .before .before .before .before .before .before .before .before .before .before .before .before .before .before .before .before .before .before .before .before .before .before .before .before .before .before .pre .1 .1 .1, c .before .before .before .before .before .before .before .before .before .before .before .before .before .before .before .before .before .leave .kept .1 .1 .1 .1 .1 .1 .1 .1 .1 .1 .0)), c .before .before .before .before .before .before .before .before .before .before .before .before .before .before .before .before .before .before .before .before .before .before .before .before .before .before .before .before .before .before .before .before .before .before .pre .0 .saved .long),
+      ((omega (arith, c .before .before .before .before .before .before .before .before .before .before .before .before .before .before .before .before .before .before .before .before .before .before .before .before .before .before .before .before .before .before .before .before .pre .1 .1 .0, c .before .before .before .before .before .before .before .before .before .before .before .before .before .before .before .before .before .leave .kept), omega (arith, c .before .before .before .before .before .before .before .before .before .before .before .before .before .before .before .before .before .before .before .before .before .before .before .before .before .before .before .before .before .before .before .before .pre .1 .1 .1, c .before .before .before .before .before .before .before .before .before .before .before .before .before .before .before .before .before .leave .kept)), c .before .before .before .before .before .before .before .before .before .before .before .before .before .before .before .before .before .before .before .before .before .before .before .before .before .before .before .before .before .before .before .before .pre .0 .saved .long),
     )
 
 same-length-7 : tie.Need-same-length-7
@@ -79,9 +75,9 @@ same-length-12 c = search needs
 
 returns-2 : tie.Need-returns-2
 returns-2 c =
-    λ h k x sv.
-    let l = c .before .before .before .before .before .before .before .before .before .before .before .before .before .before .before .before .before .before .before .before .before .before .before .before .before .before .before .before .before .before .leave .ensures (h .graph) k (h .fits) (h .rows) x sv in
-    let y = c .before .before .before .before .before .before .before .before .before .before .before .before .enter .ensures (h .graph) k (h .fits) (h .ends) (rw (c .before .before .before .before .before .before .before .before .before .before .before .before .before .before .before .before .before .before .before .before .turned .given .1) at (l .0)) in
+    λ g k f x sv.
+    let l = c .before .before .before .before .before .before .before .before .before .before .before .before .before .before .before .before .before .before .before .before .before .before .before .before .before .before .before .before .before .before .leave .ensures g k f x sv in
+    let y = c .before .before .before .before .before .before .before .before .before .before .before .before .enter .ensures g k f (rw (c .before .before .before .before .before .before .before .before .before .before .before .before .before .before .before .before .before .before .before .before .turned .given .1) at (l .0)) in
     (y .0, λ deep is. saved-there (same-move is) (y .1 (l .1 _ (c .before .before .before .before .before .before .before .before .before .before .before .before .before .before .before .before .before .before .before .before .turned .given .1))))
 
 pub advance-spec : {M : Type 1} → statement M

@@ -1,26 +1,23 @@
 -- No decision is taken at the outset.
-use Rattle.walk.proofs.Walks.{enters-outset}
-use Rattle.walk.proofs.Fitting.{rows-same}
-use Rattle.walk.proofs.Saved.{saved-none}
+use Rattle.halves.proofs.Walks.{enters-outset}
+use Rattle.halves.proofs.Fitting.{at-reduction, owners-table}
+use Rattle.halves.proofs.Saved.{saved-none}
 use borrow.Author.Needs.{needs}
 use Rattle.walk.proofs.steps.first.Statement.{statement}
 use Rattle.walk.proofs.steps.first.Tie as tie
 
-copy-rows-requires : tie.Need-copy-rows-requires
-copy-rows-requires c κs = search needs
+reduce-requires : tie.Need-reduce-requires
+reduce-requires c κs =
+    let h = c .before .before .before .before .before .before .before .before .before .before .before .before .pre .0 in
+    ((h .rows .low-long, h .rows .high-long), c .before .before .before .before .before .before .before .before .before .before .before .before .pre .1 .0, h .parents-table .few, owners-table (h .owners-long) (h .fits .owned) .roots-within)
 
 enter-requires : tie.Need-enter-requires
 enter-requires c κs =
-    let h = c .before .before .before .before .before .before .before .before .before .before .before .before .before .before .before .before .before .before .before .before .before .before .before .pre .0 in
-    let k = c .before .before .before .before .before .before .before .before .before .before .copy-rows .ensures in (
+    let h = c .before .before .before .before .before .before .before .before .before .before .before .before .before .before .before .before .before .before .before .before .before .before .before .pre .0 in (
       record {
-        graph = h .graph;
+        walked = record { graph = h .graph; parents-table = h .parents-table; owners-long = h .owners-long; fits = h .fits };
         passed = 0;
-        parents-table = h .parents-table;
-        owners-long = h .owners-long;
-        fits = h .fits;
-        ends = h .ends;
-        enters = enters-outset (h .graph) _ _ _ _ (h .solvable) (rows-same (k .0) (k .1) (h .rows));
+        enters = enters-outset (h .graph) _ _ _ _ (h .solvable) (at-reduction (h .ends .nodes) (c .before .before .before .before .before .before .before .before .before .before .reduce .ensures (h .graph) (h .fits .owned .shaped) (h .ends) (h .rows)));
       },
       (c .before .before .before .before .before .before .before .before .before .before .before .before .before .before .before .before .before .before .before .before .before .before .before .pre .1 .1, c .before .before .before .before .before .before .before .before .before .before .before .before .before .before .before .before .before .before .before .before .before .before .before .pre .1 .2),
     )
@@ -45,16 +42,15 @@ same-length-6 c = search needs
 
 returns : tie.Need-returns
 returns c =
-    let k = c .before .before .before .before .before .before .before .before .before .before .before .before .before .before .before .before .before .before .before .before .before .before .before .copy-rows .ensures in
     λ h.
-    let y = c .before .before .before .before .before .before .before .before .before .before .before .before .enter .ensures (h .graph) 0 (h .fits) (h .ends) (enters-outset (h .graph) _ _ _ _ (h .solvable) (rows-same (k .0) (k .1) (h .rows))) in
+    let y = c .before .before .before .before .before .before .before .before .before .before .before .before .enter .ensures (h .graph) 0 (h .fits) (enters-outset (h .graph) _ _ _ _ (h .solvable) (at-reduction (h .ends .nodes) (c .before .before .before .before .before .before .before .before .before .before .before .before .before .before .before .before .before .before .before .before .before .before .before .reduce .ensures (h .graph) (h .fits .owned .shaped) (h .ends) (h .rows)))) in
     (y .0, y .1 (saved-none (c .before .before .before .before .before .before .before .before .before .before .before .before .before .before .before .before .before .before .before .before .before .before .before .before .before .before .before .before .before .before .before .before .before .before .before .before .pre .1 .2)))
 
 pub first-spec : {M : Type 1} → statement M
 first-spec =
     tie.close
     (tie.spec
-    copy-rows-requires
+    reduce-requires
     enter-requires
     same-length
     same-length-2
