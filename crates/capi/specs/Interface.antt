@@ -9,13 +9,13 @@ use Rattle.graph.specs.Sheet.{Outcome}
 use Rattle.graph.specs.Order.{limit}
 use Rattle.graph.specs.declared.Count.{Count}
 use Rattle.graph.specs.declared.Count.the-variants.{Exactly, More}
-use Rattle.tidy.specs.Tidy.{Tidies}
-use Rattle.tidy.specs.declared.Tidied.{Tidied}
-use Rattle.tidy.specs.declared.Tidied.the-variants.{Length as TidyLength, Refused as TidyRefused}
-use Rattle.fragments.specs.Table.{Tabled}
-use Rattle.fragments.specs.declared.Table.{Table}
-use Rattle.fragments.specs.declared.Table.the-variants.{Filled, Refused as TableRefused}
-use Rattle.placings.specs.declared.Answers.{Answers}
+use Rattle.sheet_encode.specs.Tidy.{Tidies}
+use Rattle.sheet_encode.specs.declared.Tidied.{Tidied}
+use Rattle.sheet_encode.specs.declared.Tidied.the-variants.{Length as TidyLength, Refused as TidyRefused}
+use Rattle.sheet_fragments.specs.Table.{Tabled}
+use Rattle.sheet_fragments.specs.declared.Table.{Table}
+use Rattle.sheet_fragments.specs.declared.Table.the-variants.{Filled, Refused as TableRefused}
+use Rattle.check_placing.specs.declared.Answers.{Answers}
 use Rattle.counter.specs.Calls.{CountOf, ReadingOf, StretchOf, ConfigurationOf, DrawingOf, countNumber, placedNumber, drawnNumber}
 use Rattle.counter.specs.Checks.{CycleOf, PlacingOf, cycleNumber, placingNumber, tidiedNumber, tableNumber}
 use Rattle.counter.specs.declared.Counted.{Counted}

@@ -16,18 +16,18 @@ use Rattle.graph.specs.Rule1.{Rule1}
 use Rattle.graph.specs.Drawing.{drawing}
 use Rattle.graph.specs.declared.Count.{Count}
 use Rattle.graph.specs.declared.Refusal.the-variants.{NoReading as No-reading, SmallBuffer, NoSuchReading}
-use Rattle.paths.proofs.Shape.{Shaped, well-formed-shaped}
-use Rattle.paths.proofs.Forests.{placing-length}
-use Rattle.listing.proofs.Readings.{listed, listing-exists, listed-solved, one-below}
+use Rattle.theory_forest.proofs.Shape.{Shaped, well-formed-shaped}
+use Rattle.theory_forest.proofs.Forests.{placing-length}
+use Rattle.theory_list.proofs.Readings.{listed, listing-exists, listed-solved, one-below}
 use Rattle.rows.specs.Rows.{Tables}
-use Rattle.halves.specs.Given.{Sheet}
-use Rattle.witness.specs.Thinning.{Unsolved}
-use Rattle.configure.specs.Given.{Solved}
-use Rattle.configure.specs.Step.{Configured}
-use Rattle.draw.specs.Drawn.{Drawable}
-use Rattle.draw.specs.Drawn as text
-use Rattle.placings.specs.Answered.{Answered}
-use Rattle.placings.specs.declared.Answers.{Answers}
+use Rattle.solve_branch.specs.Given.{Sheet}
+use Rattle.solve_cycle.specs.Thinning.{Unsolved}
+use Rattle.solve_rule1.specs.Given.{Solved}
+use Rattle.solve_rule1.specs.Step.{Configured}
+use Rattle.show_drawing.specs.Drawn.{Drawable}
+use Rattle.show_drawing.specs.Drawn as text
+use Rattle.check_placing.specs.Answered.{Answered}
+use Rattle.check_placing.specs.declared.Answers.{Answers}
 use Rattle.numbered.specs.Numbered.{Finds}
 use Rattle.stretch.specs.Stretch as stretches
 use Rattle.start.specs.Given.{Given}

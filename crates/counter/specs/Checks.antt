@@ -9,12 +9,12 @@ use Rattle.graph.specs.Sheet.{Outcome, refused, accepted}
 use Rattle.graph.specs.Cycle.{hypernormalCycle}
 use Rattle.graph.specs.Refusal.{number}
 use Rattle.graph.specs.declared.Refusal.the-variants.{SmallBuffer}
-use Rattle.tidy.specs.declared.Tidied.{Tidied}
-use Rattle.tidy.specs.declared.Tidied.the-variants.{Length, Refused as TidiedRefused}
-use Rattle.fragments.specs.declared.Table.{Table}
-use Rattle.fragments.specs.declared.Table.the-variants.{Filled, Refused as TableRefused}
-use Rattle.placings.specs.Answered.{Answered}
-use Rattle.placings.specs.declared.Answers.{Answers}
+use Rattle.sheet_encode.specs.declared.Tidied.{Tidied}
+use Rattle.sheet_encode.specs.declared.Tidied.the-variants.{Length, Refused as TidiedRefused}
+use Rattle.sheet_fragments.specs.declared.Table.{Table}
+use Rattle.sheet_fragments.specs.declared.Table.the-variants.{Filled, Refused as TableRefused}
+use Rattle.check_placing.specs.Answered.{Answered}
+use Rattle.check_placing.specs.declared.Answers.{Answers}
 use Rattle.counter.specs.declared.CycleChecked.{CycleChecked}
 use Rattle.counter.specs.declared.CycleChecked.the-variants.{Answer, Refused as CycleRefused}
 use Rattle.counter.specs.declared.PlacingChecked.{PlacingChecked}

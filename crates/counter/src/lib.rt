@@ -1,28 +1,28 @@
 // The calls that are open to callers. Nothing is asked of what is lent: each call tests its own input.
 mod tables;
 
-use cycles::check;
-use fragments::Table;
-use fragments::records::prepare;
-use fragments::records::record;
+use check_cycle::check;
+use sheet_fragments::Table;
+use sheet_fragments::records::prepare;
+use sheet_fragments::records::record;
 use graph::Count;
 use graph::Fragment;
 use graph::Refusal;
-use placings::Answers;
-use sheet::judge::Verdict;
-use sheet::read::read;
+use check_placing::Answers;
+use sheet_decode::judge::Verdict;
+use sheet_decode::read::read;
 use tables::checked_placing;
 use tables::configuration_of;
 use tables::count_of;
 use tables::drawing_of;
 use tables::reading_of;
 use tables::stretch_of;
-use tidy::Tidied;
+use sheet_encode::Tidied;
 ghost use mathlib.Core.Path.{_≡_};
 ghost use Rattle.graph.specs.Sheet.{outcome};
-ghost use Rattle.tidy.specs.Tidy.{Tidies};
-ghost use Rattle.fragments.specs.Table.{Tabled};
-ghost use Rattle.fragments.specs.Records.{Recorded};
+ghost use Rattle.sheet_encode.specs.Tidy.{Tidies};
+ghost use Rattle.sheet_fragments.specs.Table.{Tabled};
+ghost use Rattle.sheet_fragments.specs.Records.{Recorded};
 ghost use Rattle.counter.specs.Calls.{CountOf, ReadingOf, StretchOf, ConfigurationOf, DrawingOf};
 ghost use Rattle.counter.specs.Checks.{CycleOf, PlacingOf};
 
@@ -171,14 +171,14 @@ pub fn drawing(sheet: &[u8], number: usize, out: &mut [u8]) -> Drawn
 pub fn tidy(sheet: &[u8], out: &mut [u8]) -> Tidied
     ensures { λ r. ⌜ Tidies (outcome (now (sheet .entry))) r (now (out .entry)) (now (out .exit)) ⌝ }
 {
-    tidy::tidy(sheet, out)
+    sheet_encode::tidy(sheet, out)
 }
 
 // One record per fragment, three bytes each: root, lowest leaf, number of leaves.
 pub fn fragment_table(sheet: &[u8], out: &mut [u8]) -> Table
     ensures { λ r. ⌜ Tabled (outcome (now (sheet .entry))) r (now (out .entry)) (now (out .exit)) ⌝ }
 {
-    fragments::fragment_table(sheet, out)
+    sheet_fragments::fragment_table(sheet, out)
 }
 
 // The same as records, into a lent slice of them. Later records, and in a refusal all, stay unwritten.

@@ -6,15 +6,15 @@ use crate::Next;
 use crate::Place;
 use crate::Placed;
 use crate::PlacingChecked;
-use configure::configure;
-use draw::draw;
+use solve_rule1::configure;
+use show_drawing::draw;
 use graph::Refusal;
 use numbered::LAST;
 use numbered::count;
 use numbered::find;
 use start::begin;
 use stretch::stretch;
-use witness::witness;
+use solve_cycle::witness;
 ghost use Rattle.start.specs.Given.{Given};
 ghost use Rattle.counter.specs.Calls.{Counts, ReadingCall, StretchCall, ConfigurationCall, DrawingCall};
 ghost use Rattle.counter.specs.Checks.{PlacingCall};
@@ -267,5 +267,5 @@ pub(crate) fn checked_placing(
     if placing.len() < n {
         return PlacingChecked::Refused(Refusal::SmallBuffer);
     }
-    PlacingChecked::Answers(placings::check(parent, heads_low, heads_high, n, placing))
+    PlacingChecked::Answers(check_placing::check(parent, heads_low, heads_high, n, placing))
 }

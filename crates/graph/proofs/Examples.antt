@@ -4,7 +4,7 @@ use Prim.Native.Nat.{ℕ}
 use mathlib.Core.Path.{_≡_, refl}
 use mathlib.Core.List.{List, [], _∷_, _++_}
 use mathlib.Core.Bool.{Bool, true, false, cond, not, _&&_, _||_}
-use Rattle.finite.specs.Below.{any, all, count, least, spread, select}
+use Rattle.base_finite.specs.Below.{any, all, count, least, spread, select}
 use Rattle.graph.specs.Graph.{Edge, Graph, among, entered, left, root, leaf, parent, top, own, leafOf, distinct, single, none}
 use Rattle.graph.specs.Sheet.{Outcome, refused, accepted, rises, cyclic, bare, astray, whole, takesTwo, beyond, commands, outcome, tidyTree, tidyDominance, tidy, spelt, sheet, tree-edge, dominance-edge}
 use Rattle.graph.specs.Placing.{placing, hangs}

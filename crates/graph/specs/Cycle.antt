@@ -4,7 +4,7 @@ use mathlib.Core.List.{List}
 use mathlib.Core.Bool.{Bool, cond, not, _&&_, _||_}
 use lib.Dec.{eqb, leb}
 use lib.ListN.{length, getD}
-use Rattle.finite.specs.Below.{all, count}
+use Rattle.base_finite.specs.Below.{all, count}
 use Rattle.graph.specs.Graph.{Graph, among, leaf}
 
 -- "It is written as c pairs: node, then the kind of edge to the next node, 2 for tree and 3 for dominance."

@@ -3,7 +3,7 @@ use Prim.Native.Nat.{ℕ, zero, suc}
 use mathlib.Core.List.{List, [], _∷_, _++_, map}
 use mathlib.Core.Bool.{cond, _&&_}
 use lib.Dec.{eqb}
-use Rattle.finite.specs.Below.{any, select}
+use Rattle.base_finite.specs.Below.{any, select}
 use Rattle.graph.specs.Graph.{Graph, root, leafOf, none}
 use Rattle.graph.specs.Placing.{at, hangs}
 use Rattle.graph.specs.Text.{decimal}

@@ -7,7 +7,7 @@ use mathlib.Core.Bool.{Bool, true, _&&_, _||_}
 use mathlib.Core.Logic.{_⊎_}
 use lib.Dec.{eqb}
 use lib.ListN.{length, getD}
-use Rattle.finite.specs.Below.{all}
+use Rattle.base_finite.specs.Below.{all}
 use Rattle.graph.specs.Graph.{Graph, TreeEdge, DominanceEdge, Descent, Path, root, leaf, none}
 
 -- what stands at v in a list of bytes

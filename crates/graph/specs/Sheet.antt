@@ -6,7 +6,7 @@ use mathlib.Core.List.{List, [], _∷_, _++_}
 use mathlib.Core.Bool.{Bool, true, false, cond, not, _&&_, _||_}
 use lib.Dec.{eqb, ltb, leb}
 use lib.ListN.{length}
-use Rattle.finite.specs.Below.{any, spread}
+use Rattle.base_finite.specs.Below.{any, spread}
 use Rattle.graph.specs.Graph.{Edge, Graph, among, entered, left, root, leaf, parent}
 use Rattle.graph.specs.declared.Refusal.{Refusal}
 use Rattle.graph.specs.declared.Refusal.the-variants.{Missing, Command, Range, Tree, Bare, Ends, Repeated, TooMany}

@@ -2,7 +2,7 @@
 use Prim.Native.Nat.{ℕ}
 use mathlib.Core.List.{List, [], _∷_}
 use mathlib.Core.Bool.{cond}
-use Rattle.finite.specs.Below.{count, spread}
+use Rattle.base_finite.specs.Below.{count, spread}
 use Rattle.graph.specs.Graph.{Graph, root, leafOf}
 use Rattle.graph.specs.Rule1.{lowestLeaf}
 use Rattle.graph.specs.declared.Fragment.{Fragment}

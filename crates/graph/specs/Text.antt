@@ -4,7 +4,7 @@ use mathlib.Core.List.{List, [], _∷_, _++_}
 use mathlib.Core.Bool.{cond, not, _&&_}
 use lib.Dec.{eqb, ltb}
 use lib.ListN.{length, take}
-use Rattle.finite.specs.Below.{spread}
+use Rattle.base_finite.specs.Below.{spread}
 use Rattle.graph.specs.Graph.{Graph, root, none}
 use Rattle.graph.specs.Placing.{at}
 use Rattle.graph.specs.Order.{limit, countAnswer}

@@ -8,20 +8,20 @@ use native.Mathlib.Omega.{arith}
 use lib.ListN.{length, take, drop, take-append-drop}
 use denote.Enum.Declared.{tagOf}
 use borrow.Author.Tests.{le-leb, lt-leb}
-use Rattle.nodeset.specs.declared.NodeSet.{NodeSet}
+use Rattle.base_nodeset.specs.declared.NodeSet.{NodeSet}
 use Rattle.graph.specs.Graph.{Graph}
 use Rattle.graph.specs.Order.{entry, limit, countAnswer}
 use Rattle.graph.specs.declared.Count.the-variants.{Exactly, More}
-use Rattle.listing.proofs.Readings.{listed}
-use Rattle.listing.proofs.Settled.{settled}
-use Rattle.fork.specs.Reduced.{Given}
-use Rattle.walking.proofs.States.{at-below}
-use Rattle.halves.specs.Given.{Sheet}
-use Rattle.halves.specs.States.{Stands}
-use Rattle.walk.specs.Moves.{Moves}
-use Rattle.walk.specs.declared.steps.Moved.{Moved}
-use Rattle.walk.specs.declared.steps.Moved.the-variants.{To, End}
-use Rattle.halves.proofs.Walks.{stands-entry}
+use Rattle.theory_list.proofs.Readings.{listed}
+use Rattle.theory_list.proofs.Settled.{settled}
+use Rattle.solve_reduce.specs.Reduced.{Given}
+use Rattle.theory_walk.proofs.States.{at-below}
+use Rattle.solve_branch.specs.Given.{Sheet}
+use Rattle.solve_branch.specs.States.{Stands}
+use Rattle.solve_walk.specs.Moves.{Moves}
+use Rattle.solve_walk.specs.declared.steps.Moved.{Moved}
+use Rattle.solve_walk.specs.declared.steps.Moved.the-variants.{To, End}
+use Rattle.solve_branch.proofs.Walks.{stands-entry}
 use Rattle.numbered.specs.Numbered.{Reaches, Finds}
 use Rattle.numbered.specs.declared.Reached.{Reached}
 use Rattle.numbered.specs.declared.Reached.the-variants.{At, Only}

@@ -6,9 +6,9 @@ use mathlib.Core.Bool.{Bool, true, false}
 use lib.ListN.{length, drop}
 use Rattle.graph.specs.Graph.{Graph}
 use Rattle.graph.specs.Order.{entry}
-use Rattle.listing.proofs.Readings.{listed}
-use Rattle.halves.specs.Levels.{Saved}
-use Rattle.halves.specs.States.{Stands}
+use Rattle.theory_list.proofs.Readings.{listed}
+use Rattle.solve_branch.specs.Levels.{Saved}
+use Rattle.solve_branch.specs.States.{Stands}
 use Rattle.numbered.specs.declared.Reached.{Reached}
 use Rattle.numbered.specs.declared.Reached.the-variants.{At, Only}
 

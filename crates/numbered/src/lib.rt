@@ -1,21 +1,21 @@
 // The readings of a graph that has some, by their numbers: how many there are, and the one with a number.
-use fork::reduced::WIDE;
-use fork::settle::settle;
+use solve_reduce::reduced::WIDE;
+use solve_reduce::settle::settle;
 use graph::Count;
-use halves::levels::WORDS;
-use nodeset::NodeSet;
-use walk::steps::Moved;
-use walk::steps::first;
-use walk::steps::next;
+use solve_branch::levels::WORDS;
+use base_nodeset::NodeSet;
+use solve_walk::steps::Moved;
+use solve_walk::steps::first;
+use solve_walk::steps::next;
 ghost use mathlib.Core.Path.{_≡_};
 ghost use Prim.Native.Nat.{_≤_};
 ghost use lib.ListN.{length};
 ghost use Rattle.graph.specs.Order.{countAnswer};
-ghost use Rattle.listing.proofs.Readings.{listed};
-ghost use Rattle.fork.specs.Reduced.{Wide};
-ghost use Rattle.halves.specs.Decisions.{Room};
-ghost use Rattle.halves.specs.Given.{Sheet};
-ghost use Rattle.halves.specs.Levels.{Levels};
+ghost use Rattle.theory_list.proofs.Readings.{listed};
+ghost use Rattle.solve_reduce.specs.Reduced.{Wide};
+ghost use Rattle.solve_branch.specs.Decisions.{Room};
+ghost use Rattle.solve_branch.specs.Given.{Sheet};
+ghost use Rattle.solve_branch.specs.Levels.{Levels};
 ghost use Rattle.numbered.specs.Numbered.{Reaches, SavedAt, Finds};
 
 // The last number that a reading is asked for by.

@@ -1,28 +1,28 @@
 // Lists the readings of the sheet on standard input, up to 2,048 bytes, as document 01's "The printed list" has them.
-use fork::reduced::WIDE;
+use solve_reduce::reduced::WIDE;
 use graph::Count;
 use graph::Refusal;
-use halves::levels::WORDS;
+use solve_branch::levels::WORDS;
 use libc::STDOUT_FILENO;
-use nodeset::NodeSet;
+use base_nodeset::NodeSet;
 use numbered::LAST;
 use numbered::PAIRS;
 use numbered::count;
-use pages::fill;
-use sheet::judge::Verdict;
-use sheet::read::read;
+use show_list::fill;
+use sheet_decode::judge::Verdict;
+use sheet_decode::read::read;
 use start::begin;
-use text::count_line;
-use text::refused_line;
-use walk::steps::first;
+use base_text::count_line;
+use base_text::refused_line;
+use solve_walk::steps::first;
 ghost use mathlib.Core.Path.{_≡_};
 ghost use mathlib.Core.Bool.{false};
 ghost use Prim.Native.Nat.{min};
 ghost use lib.ListN.{length};
 ghost use Rattle.graph.specs.Order.{limit, countAnswer};
-ghost use Rattle.listing.proofs.Readings.{listed};
+ghost use Rattle.theory_list.proofs.Readings.{listed};
 ghost use Rattle.start.specs.Given.{Given};
-ghost use Rattle.halves.specs.Given.{Sheet};
+ghost use Rattle.solve_branch.specs.Given.{Sheet};
 
 // A page is written at once. A list that fits into one is walked through once.
 const PAGE: usize = 262144;

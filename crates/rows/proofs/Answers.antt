@@ -6,10 +6,10 @@ use native.Mathlib.Omega.{arith}
 use Rattle.graph.specs.Graph.{Graph}
 use Rattle.graph.specs.Sheet.{Outcome, refused, accepted, outcome}
 use Rattle.graph.specs.declared.Refusal.{Refusal}
-use Rattle.layout.proofs.Spelling.{accepted-well-formed}
-use Rattle.sheet.specs.Read.{Reads, Value}
-use Rattle.sheet.specs.declared.read.Answer.{Answer}
-use Rattle.sheet.specs.declared.judge.Verdict.the-variants.{Accepted, Refused}
+use Rattle.theory_format.proofs.Spelling.{accepted-well-formed}
+use Rattle.sheet_decode.specs.Read.{Reads, Value}
+use Rattle.sheet_decode.specs.declared.read.Answer.{Answer}
+use Rattle.sheet_decode.specs.declared.judge.Verdict.the-variants.{Accepted, Refused}
 use Rattle.rows.specs.Rows.{Tables}
 
 refused-where : (o : Outcome) (r : Answer) (why : Refusal) → Reads o r → r .verdict ≡ Refused why → o ≡ refused why

@@ -7,8 +7,8 @@ use lib.Dec.{eqb}
 use lib.ListN.{length, set, length-set}
 use lib.Seq.{getD-set-same, getD-set-other}
 use borrow.Author.Tests.{eqb-true, eqb-false}
-use Rattle.finite.proofs.Laws.{by-bool}
-use Rattle.nodeset.specs.declared.NodeSet.{NodeSet}
+use Rattle.base_finite.proofs.Laws.{by-bool}
+use Rattle.base_nodeset.specs.declared.NodeSet.{NodeSet}
 use Rattle.rows.specs.Rows.{RowPut}
 
 pub row-put : (i : ℕ) (s : NodeSet) (low high : List ℕ) → i < length low → i < length high → RowPut i s low high (set low i (s .low)) (set high i (s .high))

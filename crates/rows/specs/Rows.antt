@@ -6,10 +6,10 @@ use mathlib.Core.Bool.{Bool, true, cond}
 use mathlib.Core.Logic.{_↔_}
 use lib.Dec.{eqb}
 use lib.ListN.{length, getD}
-use Rattle.nodeset.specs.Set.{member, mem}
-use Rattle.nodeset.specs.declared.NodeSet.{NodeSet}
+use Rattle.base_nodeset.specs.Set.{member, mem}
+use Rattle.base_nodeset.specs.declared.NodeSet.{NodeSet}
 use Rattle.graph.specs.Graph as spec
-use Rattle.sheet.specs.Turn.{Holds}
+use Rattle.sheet_decode.specs.Turn.{Holds}
 
 -- a table of rows has 128
 abbrev pub Long : List ℕ → List ℕ → Type 0

@@ -1,5 +1,5 @@
 // Tables of rows that hold a relation on the nodes.
-use nodeset::NodeSet;
+use base_nodeset::NodeSet;
 ghost use mathlib.Core.Path.{_≡_};
 ghost use mathlib.Core.Bool.{cond};
 ghost use Prim.Native.Nat.{ℕ, _≤_, _<_};

@@ -3,9 +3,9 @@ use mathlib.Core.Path.{_≡_}
 use mathlib.Core.List.{List}
 use Prim.Native.Nat.{ℕ}
 use Rattle.graph.specs.Sheet.{outcome, accepted}
-use Rattle.sheet.specs.Read.{Reads}
-use Rattle.sheet.specs.declared.read.Answer.{Answer}
-use Rattle.sheet.specs.declared.judge.Verdict.the-variants.{Accepted}
+use Rattle.sheet_decode.specs.Read.{Reads}
+use Rattle.sheet_decode.specs.declared.read.Answer.{Answer}
+use Rattle.sheet_decode.specs.declared.judge.Verdict.the-variants.{Accepted}
 use Rattle.rows.proofs.Answers.{answered-accepted}
 use Rattle.start.specs.Given.{Given}
 

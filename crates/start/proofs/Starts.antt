@@ -6,15 +6,15 @@ use mathlib.Core.Bool.{true, true≢false}
 use mathlib.Core.Logic.{_↔_}
 use native.Mathlib.Omega.{arith}
 use lib.ListN.{length}
-use Rattle.nodeset.specs.Set.{mem}
+use Rattle.base_nodeset.specs.Set.{mem}
 use Rattle.graph.specs.Graph.{Graph, Descent, leaf}
 use Rattle.graph.specs.Placing.{Solvable}
-use Rattle.paths.proofs.Shape.{Shaped, well-formed-shaped}
-use Rattle.sheet.specs.Judge.{Parents, RootSet}
+use Rattle.theory_forest.proofs.Shape.{Shaped, well-formed-shaped}
+use Rattle.sheet_decode.specs.Judge.{Parents, RootSet}
 use Rattle.rows.specs.Rows.{Long, Rows}
 use Rattle.trees.specs.Trees.{TreeOf, Filled}
 use Rattle.trees.proofs.Held.{tree-of, tables-parents, own-is}
-use Rattle.fork.proofs.Trees.{ends-of}
+use Rattle.solve_reduce.proofs.Trees.{ends-of}
 use Rattle.start.specs.Given.{Given}
 use Rattle.start.specs.Started.{Started}
 use Rattle.start.specs.declared.Start.{Start}

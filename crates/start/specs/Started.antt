@@ -5,7 +5,7 @@ use mathlib.Core.List.{List}
 use mathlib.Core.Bool.{true, false}
 use Rattle.graph.specs.Graph.{Graph}
 use Rattle.graph.specs.Placing.{Solvable}
-use Rattle.halves.specs.Given.{Sheet}
+use Rattle.solve_branch.specs.Given.{Sheet}
 use Rattle.start.specs.declared.Start.{Start}
 
 -- the sheet that a walk is given, and its graph is g

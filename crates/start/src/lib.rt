@@ -1,10 +1,10 @@
 // What every walk needs of a sheet's graph: the rows of its descent relation, the root of each node, the leaves and the
 // roots; and whether there is anything to walk through.
-use descent::graph_rows;
-use fork::ends::leaf_nodes;
-use nodeset::NodeSet;
-use sheet::judge::root_nodes;
-use solvable::solvable;
+use solve_closure::graph_rows;
+use solve_reduce::ends::leaf_nodes;
+use base_nodeset::NodeSet;
+use sheet_decode::judge::root_nodes;
+use solve_test::solvable;
 use trees::owners;
 ghost use Prim.Native.Nat.{_≤_};
 ghost use lib.ListN.{length};

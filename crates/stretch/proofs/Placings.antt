@@ -7,18 +7,18 @@ use native.Mathlib.Omega.{arith}
 use lib.ListN.{length, take, drop, take-append-drop, length-append, length-drop}
 use lib.Seq.{length-take-le, take-all, drop-length, drop-drop, getD-drop, take-append-add, drop-append-add}
 use borrow.Rule.Slice.PartMut.{midOf, putMid}
-use Rattle.nodeset.specs.declared.NodeSet.{NodeSet}
+use Rattle.base_nodeset.specs.declared.NodeSet.{NodeSet}
 use Rattle.graph.specs.Graph.{Graph}
 use Rattle.graph.specs.Order.{entry, limit}
-use Rattle.listing.proofs.Readings.{listed}
-use Rattle.listing.proofs.Settled.{settled}
-use Rattle.fork.specs.Reduced.{Given}
-use Rattle.walking.specs.Walk.{graphAt}
-use Rattle.walking.proofs.States.{at-below, at-entry}
-use Rattle.halves.specs.Decisions.{decisions}
-use Rattle.halves.specs.Given.{Fits}
-use Rattle.halves.specs.States.{Stands}
-use Rattle.halves.proofs.Walks.{stands-given}
+use Rattle.theory_list.proofs.Readings.{listed}
+use Rattle.theory_list.proofs.Settled.{settled}
+use Rattle.solve_reduce.specs.Reduced.{Given}
+use Rattle.theory_walk.specs.Walk.{graphAt}
+use Rattle.theory_walk.proofs.States.{at-below, at-entry}
+use Rattle.solve_branch.specs.Decisions.{decisions}
+use Rattle.solve_branch.specs.Given.{Fits}
+use Rattle.solve_branch.specs.States.{Stands}
+use Rattle.solve_branch.proofs.Walks.{stands-given}
 use Rattle.numbered.specs.Numbered.{joined, Reaches}
 use Rattle.numbered.specs.declared.Reached.{Reached}
 use Rattle.numbered.specs.declared.Reached.the-variants.{At, Only}

@@ -6,7 +6,7 @@ use mathlib.Core.Logic.{_⊎_}
 use lib.ListN.{length, take, drop}
 use Rattle.graph.specs.Graph.{Graph}
 use Rattle.graph.specs.Order.{limit}
-use Rattle.listing.proofs.Readings.{listed}
+use Rattle.theory_list.proofs.Readings.{listed}
 use Rattle.numbered.specs.Numbered.{joined}
 
 -- the placings that come after the first `passed`, up to the number `last`

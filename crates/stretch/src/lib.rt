@@ -1,27 +1,27 @@
 // Readings one after the other, as many as there are and as fit, in one walk.
-use fork::reduced::WIDE;
-use fork::settle::settle;
-use halves::levels::WORDS;
-use nodeset::NodeSet;
+use solve_reduce::reduced::WIDE;
+use solve_reduce::settle::settle;
+use solve_branch::levels::WORDS;
+use base_nodeset::NodeSet;
 use numbered::LAST;
 use numbered::PAIRS;
 use numbered::Reached;
 use numbered::reach;
-use walk::steps::Moved;
-use walk::steps::next;
+use solve_walk::steps::Moved;
+use solve_walk::steps::next;
 ghost use mathlib.Core.Path.{_≡_};
 ghost use mathlib.Core.List.{_++_};
 ghost use Prim.Native.Nat.{_+_, _≤_, _<_};
 ghost use lib.ListN.{length, take, drop};
 ghost use Rattle.graph.specs.Graph.{Graph};
 ghost use Rattle.graph.specs.Order.{limit};
-ghost use Rattle.listing.proofs.Settled.{settled};
-ghost use Rattle.fork.specs.Reduced.{Wide, Given};
-ghost use Rattle.halves.specs.Decisions.{Room};
-ghost use Rattle.halves.specs.Given.{Fits, Sheet};
-ghost use Rattle.halves.specs.Levels.{Saved};
-ghost use Rattle.halves.specs.States.{Stands};
-ghost use Rattle.walk.specs.States.{Standing};
+ghost use Rattle.theory_list.proofs.Settled.{settled};
+ghost use Rattle.solve_reduce.specs.Reduced.{Wide, Given};
+ghost use Rattle.solve_branch.specs.Decisions.{Room};
+ghost use Rattle.solve_branch.specs.Given.{Fits, Sheet};
+ghost use Rattle.solve_branch.specs.Levels.{Saved};
+ghost use Rattle.solve_branch.specs.States.{Stands};
+ghost use Rattle.solve_walk.specs.States.{Standing};
 ghost use Rattle.stretch.specs.Stretch.{Filled, StretchOf};
 
 // The reading where no choice is left, in the n bytes from `at` on.

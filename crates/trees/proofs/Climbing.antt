@@ -8,8 +8,8 @@ use lib.Dec.{eqb}
 use lib.ListN.{length, getD, set, length-set}
 use lib.Seq.{getD-set-same, getD-set-other}
 use borrow.Author.Tests.{eq-eqb, ne-eqb, eqb-true, eqb-false}
-use Rattle.finite.proofs.Laws.{by-bool}
-use Rattle.finite.proofs.Stores.{entry-more}
+use Rattle.base_finite.proofs.Laws.{by-bool}
+use Rattle.base_finite.proofs.Stores.{entry-more}
 use Rattle.graph.specs.Graph.{none}
 use Rattle.trees.specs.Trees.{topIn, Filled, tiedIn}
 

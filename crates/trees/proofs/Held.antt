@@ -7,17 +7,17 @@ use native.Mathlib.Omega.{arith}
 use lib.Dec.{eqb, ltb}
 use lib.ListN.{getD}
 use borrow.Author.Tests.{lt-ltb, ltb-true, not-true, not-false, eq-eqb, ne-eqb}
-use Rattle.finite.proofs.Laws.{by-bool, and-both}
-use Rattle.nodeset.specs.Set.{mem}
-use Rattle.nodeset.specs.declared.NodeSet.{NodeSet}
+use Rattle.base_finite.proofs.Laws.{by-bool, and-both}
+use Rattle.base_nodeset.specs.Set.{mem}
+use Rattle.base_nodeset.specs.declared.NodeSet.{NodeSet}
 use Rattle.graph.specs.Graph.{Graph, entered, left, parent, top, root, leaf, own, none}
 use Rattle.graph.specs.Order.{adding}
-use Rattle.layout.proofs.Edges.{parent-among}
-use Rattle.paths.proofs.Shape.{Shaped}
-use Rattle.sheet.specs.Turn.{Within}
-use Rattle.sheet.specs.Judge.{Parents, InnerSet, RootSet, innerIn, rootIn}
-use Rattle.sheet.proofs.Trees as held
-use Rattle.sheet.proofs.Whole.{parents-held}
+use Rattle.theory_format.proofs.Edges.{parent-among}
+use Rattle.theory_forest.proofs.Shape.{Shaped}
+use Rattle.sheet_decode.specs.Turn.{Within}
+use Rattle.sheet_decode.specs.Judge.{Parents, InnerSet, RootSet, innerIn, rootIn}
+use Rattle.sheet_decode.proofs.Trees as held
+use Rattle.sheet_decode.proofs.Whole.{parents-held}
 use Rattle.rows.specs.Rows.{Tables}
 use Rattle.trees.specs.Trees.{TreeOf, topIn}
 

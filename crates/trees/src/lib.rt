@@ -1,9 +1,9 @@
 // From a node of a fragment up to its root, and the tree edges between two nodes.
-use sheet::NONE;
+use sheet_decode::NONE;
 ghost use mathlib.Core.Path.{_≡_};
 ghost use Prim.Native.Nat.{_≤_, _<_};
 ghost use lib.ListN.{length};
-ghost use Rattle.sheet.specs.Judge.{Parents};
+ghost use Rattle.sheet_decode.specs.Judge.{Parents};
 ghost use Rattle.trees.specs.Trees.{topIn, Filled, tiedIn};
 
 // The root of v's fragment: up to a node without a parent.

@@ -60,21 +60,21 @@ use Rattle.graph.specs.Sheet.{outcome}
 use Rattle.graph.specs.declared.Fragment.{Fragment}
 use Rattle.graph.proofs.Fragment as F
 use Rattle.graph.proofs.Fragment.Laws as F′
-use Rattle.fragments.specs.Records.{recordAt, Prepares}
-use Rattle.fragments.specs.declared.records.Records.{Records}
-use Rattle.fragments.proofs.Storing.{stores, length-stores, prepares-fits, prepares-recorded}
-use Rattle.fragments.proofs.records.Records as R
-use Rattle.fragments.proofs.records.Records.Laws as R′
-use Rattle.fragments.proofs.Table as T
-use Rattle.fragments.proofs.Table.Laws as T′
-use Rattle.fragments.proofs.records.prepare as prepare
-use Rattle.fragments.proofs.records.prepare.Symbol as prepare-def
-use Rattle.fragments.proofs.records.prepare.Symbol.{name as #prepare}
-use Rattle.fragments.proofs.records.prepare.Met as prepare-thm
-use Rattle.fragments.proofs.records.record as record′
-use Rattle.fragments.proofs.records.record.Symbol as record-def
-use Rattle.fragments.proofs.records.record.Symbol.{name as #record}
-use Rattle.fragments.proofs.records.record.Met as record-thm
+use Rattle.sheet_fragments.specs.Records.{recordAt, Prepares}
+use Rattle.sheet_fragments.specs.declared.records.Records.{Records}
+use Rattle.sheet_fragments.proofs.Storing.{stores, length-stores, prepares-fits, prepares-recorded}
+use Rattle.sheet_fragments.proofs.records.Records as R
+use Rattle.sheet_fragments.proofs.records.Records.Laws as R′
+use Rattle.sheet_fragments.proofs.Table as T
+use Rattle.sheet_fragments.proofs.Table.Laws as T′
+use Rattle.sheet_fragments.proofs.records.prepare as prepare
+use Rattle.sheet_fragments.proofs.records.prepare.Symbol as prepare-def
+use Rattle.sheet_fragments.proofs.records.prepare.Symbol.{name as #prepare}
+use Rattle.sheet_fragments.proofs.records.prepare.Met as prepare-thm
+use Rattle.sheet_fragments.proofs.records.record as record′
+use Rattle.sheet_fragments.proofs.records.record.Symbol as record-def
+use Rattle.sheet_fragments.proofs.records.record.Symbol.{name as #record}
+use Rattle.sheet_fragments.proofs.records.record.Met as record-thm
 use Rattle.counter.proofs.fragments.Key.{name as #fragments}
 use Rattle.counter.proofs.fragments as fragments
 use Rattle.counter.proofs.fragments.Statement as stated

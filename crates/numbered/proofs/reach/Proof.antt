@@ -3,13 +3,13 @@ use Prim.Native.Nat.{ℕ, _+_, _-_, _≤_}
 use mathlib.Core.Path.{_≡_, refl, subst}
 use native.Mathlib.Omega.{arith}
 use lib.ListN.{length}
-use Rattle.listing.proofs.Readings.{listed}
+use Rattle.theory_list.proofs.Readings.{listed}
 use Rattle.graph.specs.Graph.{Graph}
-use Rattle.halves.specs.Given.{Fits}
-use Rattle.halves.specs.States.{Stands}
-use Rattle.halves.specs.Levels.{Saved}
-use Rattle.halves.proofs.Saved.{saved-there}
-use Rattle.walk.proofs.Walked.{walked-of}
+use Rattle.solve_branch.specs.Given.{Fits}
+use Rattle.solve_branch.specs.States.{Stands}
+use Rattle.solve_branch.specs.Levels.{Saved}
+use Rattle.solve_branch.proofs.Saved.{saved-there}
+use Rattle.solve_walk.proofs.Walked.{walked-of}
 use Rattle.numbered.proofs.Numbers.{same-reach, only-not-at}
 use borrow.Author.Needs.{needs}
 use Rattle.numbered.proofs.reach.Statement.{statement}

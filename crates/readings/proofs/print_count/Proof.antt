@@ -2,7 +2,7 @@ use mathlib.Core.Path.{sym}
 use native.Mathlib.Omega.{arith}
 use lib.Seq.{length-take-le}
 use borrow.Author.Needs.{needs}
-use Rattle.text.proofs.Lines.{count-short}
+use Rattle.base_text.proofs.Lines.{count-short}
 use Rattle.readings.proofs.print_count.Statement.{statement}
 use Rattle.readings.proofs.print_count.Tie as tie
 

@@ -6,10 +6,10 @@ use native.Mathlib.Omega.{arith}
 use lib.ListN.{length, length-replicate}
 use lib.Seq.{length-take-le}
 use Rattle.graph.specs.Order.{limit}
-use Rattle.halves.specs.Given.{Sheet}
-use Rattle.halves.specs.Levels.{Saved}
-use Rattle.halves.specs.States.{Stands}
-use Rattle.walk.proofs.Walked.{walked-of}
+use Rattle.solve_branch.specs.Given.{Sheet}
+use Rattle.solve_branch.specs.Levels.{Saved}
+use Rattle.solve_branch.specs.States.{Stands}
+use Rattle.solve_walk.proofs.Walked.{walked-of}
 use Rattle.numbered.proofs.Numbers.{room}
 use borrow.Author.Needs.{needs}
 use Rattle.readings.proofs.print_readings.Statement.{statement}

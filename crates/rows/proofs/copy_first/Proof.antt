@@ -4,7 +4,7 @@ use mathlib.Core.Path.{_≡_, refl, _∙_}
 use native.Mathlib.Omega.{arith}
 use denote.Ref.{now}
 use lib.ListN.{length, getD, length-set}
-use Rattle.finite.proofs.Stores.{Filled, filled-none, filled-more}
+use Rattle.base_finite.proofs.Stores.{Filled, filled-none, filled-more}
 use borrow.Author.Needs.{needs}
 use Rattle.rows.proofs.copy_first.Statement.{statement}
 use Rattle.rows.proofs.copy_first.Tie as tie

@@ -7,9 +7,9 @@ use lib.ListN.{length}
 use denote.Ref.{now}
 use Rattle.graph.specs.Graph.{Graph}
 use Rattle.graph.specs.Order.{limit}
-use Rattle.halves.specs.Given.{Fits}
-use Rattle.halves.specs.Levels.{Saved}
-use Rattle.halves.specs.States.{Stands}
+use Rattle.solve_branch.specs.Given.{Fits}
+use Rattle.solve_branch.specs.Levels.{Saved}
+use Rattle.solve_branch.specs.States.{Stands}
 use Rattle.numbered.proofs.Numbers.{moved-on, moved-out}
 use Rattle.stretch.proofs.Placings.{Handed, handed-none, handed-more, handed-all, stands-within}
 use borrow.Author.Needs.{needs}

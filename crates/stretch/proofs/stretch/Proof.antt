@@ -1,7 +1,7 @@
 -- The walk goes to the first reading wanted and on from there.
 use mathlib.Core.Logic.{inr}
 use native.Mathlib.Omega.{arith}
-use Rattle.walk.proofs.Walked.{walked-of}
+use Rattle.solve_walk.proofs.Walked.{walked-of}
 use Rattle.numbered.proofs.Numbers.{room}
 use Rattle.stretch.proofs.Placings.{past-limit, none-left, next-stands}
 use borrow.Author.Needs.{needs}

@@ -1,0 +1,55 @@
+-- Runs of stores one behind the other, and lists spread over the numbers below a bound: how long they are, and which
+-- numbers may be passed over.
+use Prim.Native.Nat.{ℕ, zero, suc, _+_, _*_, _≤_, _<_}
+use mathlib.Core.Path.{_≡_, refl, sym, _∙_}
+use mathlib.Core.List.{List, [], _∷_, _++_, append-nil}
+use mathlib.Core.Bool.{Bool, true, cond}
+use mathlib.Core.Logic.{⊎-elim}
+use native.Mathlib.Nat.{eq-or-lt-of-le, add-zero, mul-one, mul-add, mul-zero}
+use native.Mathlib.Omega.{arith}
+use lib.ListN.{length, set, length-append}
+use lib.Seq.{sets}
+use Rattle.base_finite.specs.Below.{count, spread}
+use Rattle.base_finite.proofs.Laws.{by-bool}
+
+module _ {A : Type 0} where
+  pub sets-append : (a : List A) (l : List A) (i : ℕ) (b : List A) → sets (sets l i a) (i + length a) b ≡ sets l i (a ++ b)
+  sets-append [] l i b = rw add-zero
+  sets-append (x ∷ a) l i b =
+      let e : i + suc (length a) ≡ suc i + length a = omega arith in
+      rw e (sets-append a (set l i x) (suc i) b)
+
+  -- what three stores leave
+  pub three-stored : (l : List A) (i : ℕ) (a b c : A) → set (set (set l i a) (i + 1) b) (i + 2) c ≡ sets l i (a ∷ b ∷ c ∷ [])
+  three-stored l i a b c =
+      let one : i + 1 ≡ suc i = omega arith in
+      let two : i + 2 ≡ suc (suc i) = omega arith in
+      rw (one, two)
+
+-- a list for each number that has p, all of one length
+pub length-spread : {A : Type 0} (m n : ℕ) (p : ℕ → Bool) (f : ℕ → List A) → ((k : ℕ) → length (f k) ≡ m) → length (spread n (λ k. cond (p k) (f k) [])) ≡ m * count n p
+unfolding spread count
+length-spread m zero p f e = sym (mul-zero m)
+length-spread m (suc n) p f e =
+    rw (length-append, length-spread m n p f e, mul-add) (by-bool (p n) (λ t. rw (t, e n, mul-one)) (λ t. rw (t, mul-zero)))
+
+-- a spread grows with its bound
+pub spread-longer : {A : Type 0} (f : ℕ → List A) (m n : ℕ) → m ≤ n → length (spread m f) ≤ length (spread n f)
+unfolding spread
+spread-longer f m zero h = let z : m ≡ zero = omega arith in rw z (omega arith)
+spread-longer f m (suc n) h =
+    ⊎-elim
+    (λ (e : m ≡ suc n). rw e (omega arith))
+    (λ (l : m < suc n). let ih : length (spread m f) ≤ length (spread n f) = spread-longer f m n (omega arith) in rw length-append (omega arith))
+    (eq-or-lt-of-le h)
+
+-- numbers that give nothing may be passed over
+pub spread-gap : {A : Type 0} (f : ℕ → List A) (m n : ℕ) → m ≤ n → ((k : ℕ) → m ≤ k → k < n → f k ≡ []) → spread n f ≡ spread m f
+unfolding spread
+spread-gap f m zero h none = let z : m ≡ zero = omega arith in rw z
+spread-gap f m (suc n) h none =
+    ⊎-elim
+    (λ (e : m ≡ suc n). rw e)
+    (λ (l : m < suc n).
+    rw (spread-gap f m n (omega arith) (λ k a b. none k a (omega arith)), none n (omega arith) (omega arith)) (append-nil (spread m f)))
+    (eq-or-lt-of-le h)

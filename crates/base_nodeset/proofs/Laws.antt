@@ -1,0 +1,131 @@
+-- The laws of a set of two words: what the machine's operations on both words do to each number's membership,
+-- and that the members are all of the set. Each takes the words apart at 64 and cites the law of one word.
+use Prim.Native.Nat.{ℕ, _+_, _-_, _^_, _≤_, _<_}
+use mathlib.Core.Path.{_≡_, sym, ap₂, _∙_}
+use mathlib.Core.Bool.{Bool, false, cond, not, Bool·not-not, _||_, _&&_}
+use native.Mathlib.Nat.{add-sub-cancel-left}
+use native.Mathlib.Omega.{arith}
+use lib.Bits.{bitAnd, bitOr, bitXor}
+use lib.Count.{ones, trailingZeros}
+use lib.Dec.{eqb, ltb}
+use borrow.Author.Tests.{lt-ltb, le-ltb, ltb-true, ltb-false, eqb-true, eqb-false, eq-eqb, ne-eqb}
+use Rattle.base_finite.specs.Below.{any, count, least}
+use Rattle.base_finite.proofs.Laws.{by-bool, any-ext, count-ext}
+use Rattle.base_nodeset.specs.declared.NodeSet.{NodeSet}
+use Rattle.base_nodeset.specs.Set.{bit, member, mem}
+use Rattle.base_finite.proofs.Bounds.{any-join, count-join, least-join, least-ext}
+use Rattle.base_nodeset.proofs.Words.{bit-zero, bit-beyond, bit-and, bit-or, bit-difference, bit-power, bit-ext, any-bit, ones-count, trailing-least}
+
+-- Which word.
+
+pub member-low : (low high k : ℕ) → k < 64 → member low high k ≡ bit low k
+unfolding member
+member-low low high k h = rw (lt-ltb k 64 h)
+
+pub member-high : (low high k : ℕ) → 64 ≤ k → member low high k ≡ bit high (k - 64)
+unfolding member
+member-high low high k h = rw (le-ltb k 64 h)
+
+-- the high word's numbers, from 0
+pub member-above : (low high k : ℕ) → member low high (64 + k) ≡ bit high k
+member-above low high k = rw (member-high low high (64 + k) (omega arith), add-sub-cancel-left)
+
+pub member-zero : (k : ℕ) → member 0 0 k ≡ false
+unfolding member
+member-zero k = rw (bit-zero k, bit-zero (k - 64)) (by-bool (ltb k 64) (λ t. rw t) (λ f. rw f))
+
+pub member-beyond : (low high k : ℕ) → high < 2 ^ 64 → 128 ≤ k → member low high k ≡ false
+member-beyond low high k h l = member-high low high k (omega arith) ∙ bit-beyond {n = 64} (k - 64) h (omega arith)
+
+-- An operation on both words that works bit by bit, as g does.
+module _
+    (op : ℕ → ℕ → ℕ)
+    (g : Bool → Bool → Bool)
+    (on : (a b k : ℕ) → bit (op a b) k ≡ g (bit a k) (bit b k)) where
+  member-op : (low high low′ high′ k : ℕ) → member (op low low′) (op high high′) k ≡ g (member low high k) (member low′ high′ k)
+  unfolding member
+  member-op low high low′ high′ k =
+      rw (on low low′ k, on high high′ (k - 64)) (by-bool (ltb k 64) (λ t. rw t) (λ f. rw f))
+
+pub member-or : (low high low′ high′ k : ℕ) → member (bitOr low low′) (bitOr high high′) k ≡ (member low high k || member low′ high′ k)
+member-or = member-op bitOr (λ x y. x || y) bit-or
+
+pub member-and : (low high low′ high′ k : ℕ) → member (bitAnd low low′) (bitAnd high high′) k ≡ (member low high k && member low′ high′ k)
+member-and = member-op bitAnd (λ x y. x && y) bit-and
+
+pub member-difference : (low high low′ high′ k : ℕ)
+    → member (bitXor low (bitAnd low low′)) (bitXor high (bitAnd high high′)) k ≡ (member low high k && not (member low′ high′ k))
+member-difference = member-op (λ a b. bitXor a (bitAnd a b)) (λ x y. x && not y) bit-difference
+
+-- The set of one number.
+
+pub member-only-low : (i k : ℕ) → i < 64 → member (2 ^ i) 0 k ≡ eqb k i
+unfolding member
+member-only-low i k h =
+    rw (bit-power i k, bit-zero (k - 64))
+    (by-bool (ltb k 64)
+    (λ t. rw t)
+    (λ f. rw (f, ne-eqb k i (λ e. omega (arith, ltb-false k 64 f)))))
+
+pub member-only-high : (i k : ℕ) → 64 ≤ i → member 0 (2 ^ (i - 64)) k ≡ eqb k i
+unfolding member
+member-only-high i k h =
+    rw (bit-zero k, bit-power (i - 64) (k - 64))
+    (by-bool (ltb k 64)
+    (λ t. rw (t, ne-eqb k i (λ e. omega (arith, ltb-true k 64 t))))
+    (λ f.
+    let above : 64 ≤ k = ltb-false k 64 f in
+    rw f (by-bool (eqb k i)
+    (λ t. rw (t, eq-eqb (k - 64) (i - 64) (omega (arith, eqb-true k i t))))
+    (λ g. rw (g, ne-eqb (k - 64) (i - 64) (λ e. eqb-false k i g (omega arith)))))))
+
+-- The members together.
+
+pub none-member : (low high : ℕ) → low < 2 ^ 64 → high < 2 ^ 64 → not (any 128 (member low high)) ≡ (eqb low 0 && eqb high 0)
+none-member low high h l =
+    rw (any-join 64 64 (member low high), any-ext 64 (member low high) (bit low) (member-low low high), any-bit 64 low h)
+    (simp member-above
+    (rw (any-bit 64 high l)
+    (by-bool (eqb low 0) (λ t. rw t (Bool·not-not (eqb high 0))) (λ f. rw f))))
+
+pub count-member : (low high : ℕ) → low < 2 ^ 64 → high < 2 ^ 64 → ones low + ones high ≡ count 128 (member low high)
+count-member low high h l =
+    sym (count-join 64 64 (member low high)
+    ∙ ap₂ (λ (x y : ℕ). x + y)
+    (count-ext 64 (member low high) (bit low) (member-low low high) ∙ sym (ones-count 64 low h))
+    (simp member-above (sym (ones-count 64 high l))))
+
+pub least-member : (low high : ℕ) → low < 2 ^ 64 → least 128 (member low high) ≡ cond (eqb low 0) (64 + trailingZeros 64 high) (trailingZeros 64 low)
+least-member low high h =
+    least-join 64 64 (member low high)
+    ∙ simp member-above
+    (rw (
+      any-ext 64 (member low high) (bit low) (member-low low high),
+      least-ext 64 (member low high) (bit low) (member-low low high),
+      any-bit 64 low h,
+      trailing-least 64 low,
+      trailing-least 64 high,
+    )
+    (by-bool (eqb low 0) (λ t. rw t) (λ f. rw f)))
+
+-- Two words of 64 bits each that have the same members are the same.
+pub member-ext : (low high low′ high′ : ℕ)
+    → low < 2 ^ 64 → high < 2 ^ 64 → low′ < 2 ^ 64 → high′ < 2 ^ 64
+    → ((k : ℕ) → k < 128 → member low high k ≡ member low′ high′ k)
+    → (low ≡ low′) × (high ≡ high′)
+member-ext low high low′ high′ h l h′ l′ f = (
+  bit-ext 64 low low′ h h′ (λ k q. sym (member-low low high k q) ∙ f k (omega arith) ∙ member-low low′ high′ k q),
+  bit-ext 64 high high′ l l′ (λ k q. sym (member-above low high k) ∙ f (64 + k) (omega arith) ∙ member-above low′ high′ k),
+)
+
+-- the words of s have 64 bits each, as those of every value at run time have
+abbrev pub Sized : NodeSet → Type 0
+Sized s = (s .low < 2 ^ 64) × (s .high < 2 ^ 64)
+
+pub mem-ext : (s t : NodeSet) → Sized s → Sized t → ((k : ℕ) → k < 128 → mem s k ≡ mem t k) → s ≡ t
+mem-ext s t h l f =
+    let e = member-ext (s .low) (s .high) (t .low) (t .high) (h .0) (h .1) (l .0) (l .1) f in
+    ap₂ set-of (e .0) (e .1)
+  where
+    set-of : ℕ → ℕ → NodeSet
+    set-of low high = record { low = low; high = high }

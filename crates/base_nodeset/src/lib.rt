@@ -1,0 +1,124 @@
+// A set of node numbers 0..127, as two words of bits, by value.
+ghost use mathlib.Core.Path.{_≡_};
+ghost use mathlib.Core.Bool.{not};
+ghost use Prim.Native.Nat.{_<_};
+ghost use Rattle.base_finite.specs.Below.{any, count, least};
+ghost use Rattle.base_nodeset.specs.Set.{mem, Empty, Only, OfByte, Inserted, Removed, Union, Intersection, Difference};
+
+pub struct NodeSet {
+    pub low: u64,
+    pub high: u64,
+}
+
+impl NodeSet {
+    pub fn empty() -> NodeSet
+        ensures { λ r. ⌜ Empty r ⌝ }
+    {
+        NodeSet { low: 0, high: 0 }
+    }
+
+    // The set of k alone.
+    pub fn only(k: usize) -> NodeSet
+        requires { ⌜ k < 128 ⌝ }
+        ensures { λ r. ⌜ Only k r ⌝ }
+    {
+        if k < 64 {
+            NodeSet {
+                low: 1 << k,
+                high: 0,
+            }
+        } else {
+            NodeSet {
+                low: 0,
+                high: 1 << (k - 64),
+            }
+        }
+    }
+
+    // The set of a byte's node, empty for a byte that is no node.
+    pub fn of_byte(byte: u8) -> NodeSet
+        ensures { λ r. ⌜ OfByte byte r ⌝ }
+    {
+        if byte < 128 {
+            NodeSet::only(byte as usize)
+        } else {
+            NodeSet::empty()
+        }
+    }
+
+    pub fn has(self, k: usize) -> bool
+        requires { ⌜ k < 128 ⌝ }
+        ensures { λ r. ⌜ r ≡ mem self k ⌝ }
+    {
+        if k < 64 {
+            (self.low >> k) % 2 == 1
+        } else {
+            (self.high >> (k - 64)) % 2 == 1
+        }
+    }
+
+    pub fn with(self, k: usize) -> NodeSet
+        requires { ⌜ k < 128 ⌝ }
+        ensures { λ r. ⌜ Inserted self k r ⌝ }
+    {
+        NodeSet::only(k).union(self)
+    }
+
+    pub fn without(self, k: usize) -> NodeSet
+        requires { ⌜ k < 128 ⌝ }
+        ensures { λ r. ⌜ Removed self k r ⌝ }
+    {
+        self.difference(NodeSet::only(k))
+    }
+
+    pub fn union(self, other: NodeSet) -> NodeSet
+        ensures { λ r. ⌜ Union self other r ⌝ }
+    {
+        NodeSet {
+            low: self.low | other.low,
+            high: self.high | other.high,
+        }
+    }
+
+    pub fn intersection(self, other: NodeSet) -> NodeSet
+        ensures { λ r. ⌜ Intersection self other r ⌝ }
+    {
+        NodeSet {
+            low: self.low & other.low,
+            high: self.high & other.high,
+        }
+    }
+
+    // By ^ and not by !, so that no fact needs the words' width.
+    pub fn difference(self, other: NodeSet) -> NodeSet
+        ensures { λ r. ⌜ Difference self other r ⌝ }
+    {
+        NodeSet {
+            low: self.low ^ (self.low & other.low),
+            high: self.high ^ (self.high & other.high),
+        }
+    }
+
+    pub fn is_empty(self) -> bool
+        ensures { λ r. ⌜ r ≡ not (any 128 (mem self)) ⌝ }
+    {
+        if self.low == 0 { self.high == 0 } else { false }
+    }
+
+    // The lowest member, and 128 where there is none: a word of no bits has 64 trailing zeros.
+    pub fn lowest(self) -> usize
+        ensures { λ r. ⌜ r ≡ least 128 (mem self) ⌝ }
+    {
+        if self.low == 0 {
+            64 + u64::trailing_zeros(self.high) as usize
+        } else {
+            u64::trailing_zeros(self.low) as usize
+        }
+    }
+
+    pub fn count(self) -> usize
+        ensures { λ r. ⌜ r ≡ count 128 (mem self) ⌝ }
+    {
+        u64::count_ones(self.low) as usize + u64::count_ones(self.high) as usize
+    }
+}

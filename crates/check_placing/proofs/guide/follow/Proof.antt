@@ -1,0 +1,97 @@
+-- The invariant: a graph that the choices so far lead to, and turns enough for those that are left.
+use Prim.Native.Nat.{_+_, _*_, _≤_}
+use native.Mathlib.Omega.{arith}
+use lib.ListN.{take}
+use Rattle.graph.specs.Graph.{Graph}
+use Rattle.solve_reduce.specs.Reduced.{Wide}
+use Rattle.check_placing.specs.Guide.{Standing}
+use native.Mathlib.Nat.{mul-le-mul}
+use Rattle.check_placing.proofs.Shapes.{not-true, not-false}
+use Rattle.check_placing.proofs.Guides.{not-over, reads}
+use borrow.Author.Needs.{needs}
+use Rattle.check_placing.proofs.guide.follow.Statement.{statement}
+use Rattle.check_placing.proofs.guide.follow.Tie as tie
+
+abbrev Inv-loop : tie.InvT-loop
+Inv-loop parent n roots under-low under-high placing low₀ high₀ left₀ low high left =
+    Wide low high
+    × (left ≤ n * n + 1)
+    × ((g : Graph) → Standing g (take n placing) n parent roots under-low under-high (n * n + 1) low₀ high₀ →
+    Standing g (take n placing) n parent roots under-low under-high left low high)
+
+abbrev μ-loop : tie.MeasureT-loop
+μ-loop parent n roots under-low under-high placing low₀ high₀ left₀ low high left = left
+
+mul-left : tie.Need-mul-left Inv-loop μ-loop
+mul-left c = omega (arith, mul-le-mul (c .before .before .before .before .before .before .pre .0 .0 .few) (c .before .before .before .before .before .before .pre .0 .0 .few))
+
+add-left : tie.Need-add-left Inv-loop μ-loop
+add-left c = omega (arith, mul-le-mul (c .before .before .before .before .before .before .pre .0 .0 .few) (c .before .before .before .before .before .before .pre .0 .0 .few))
+
+loop-holds : tie.Need-loop-holds Inv-loop μ-loop
+loop-holds c = ((search needs, search needs), omega arith, λ g st. st)
+
+turn-requires : tie.Need-turn-requires Inv-loop μ-loop
+turn-requires c κs = search needs
+
+settles-requires : tie.Need-settles-requires Inv-loop μ-loop
+settles-requires c κs = search needs
+
+same-length : tie.Need-same-length Inv-loop μ-loop
+same-length c = search needs
+
+same-length-2 : tie.Need-same-length-2 Inv-loop μ-loop
+same-length-2 c = search needs
+
+returns : tie.Need-returns Inv-loop μ-loop
+returns c =
+    let l = c .before .before .before .before .before .before .before .before .before .before .before .before .loop in
+    λ g st s f.
+    let end = c .before .before .before .before .before .before .before .before .turn .ensures g _ (l .left) (l .inv .2 g st) .1 (not-true (c .before .before .before .before .before .before .before .before .turn .result) (c .before .before .before .if1 .taken)) in
+    reads (c .settles .result) end (c .settles .ensures (end .graph) (end .given)) s f
+
+sub-left : tie.Need-sub-left Inv-loop μ-loop
+sub-left c = search needs
+
+loop-less : tie.Need-loop-less Inv-loop μ-loop
+loop-less c = search needs
+
+loop-again : tie.Need-loop-again Inv-loop μ-loop
+loop-again c =
+    let l = c .before .before .before .before .before .before .before .before .before .loop in (
+      (search needs, search needs),
+      omega arith,
+      λ g st. c .before .before .before .before .before .turn .ensures g _ (l .left) (l .inv .2 g st) .0 (not-false (c .before .before .before .before .before .turn .result) (c .if1 .left)),
+    )
+
+same-length-3 : tie.Need-same-length-3 Inv-loop μ-loop
+same-length-3 c = search needs
+
+same-length-4 : tie.Need-same-length-4 Inv-loop μ-loop
+same-length-4 c = search needs
+
+returns-2 : tie.Need-returns-2 Inv-loop μ-loop
+returns-2 c =
+    let l = c .before .loop in
+    λ g st s f. absurd (not-over (l .inv .2 g st) (omega arith))
+
+pub follow-spec : {M : Type 1} → statement M
+follow-spec =
+    tie.close
+    (tie.spec
+    Inv-loop
+    μ-loop
+    mul-left
+    add-left
+    loop-holds
+    turn-requires
+    settles-requires
+    same-length
+    same-length-2
+    returns
+    sub-left
+    loop-less
+    loop-again
+    same-length-3
+    same-length-4
+    returns-2)

@@ -1,0 +1,64 @@
+-- The choice, the half, the edge.
+use mathlib.Core.Path.{sym}
+use mathlib.Core.Bool.{true≢false}
+use Rattle.check_placing.proofs.Guides.{none-left, choice-there, bounds-there, turned, ended}
+use borrow.Author.Needs.{needs}
+use Rattle.check_placing.proofs.guide.turn.Statement.{statement}
+use Rattle.check_placing.proofs.guide.turn.Tie as tie
+
+choose-requires : tie.Need-choose-requires
+choose-requires c κs = search needs
+
+enum-known-v : tie.Need-enum-known-v
+enum-known-v c = search needs
+
+enum-told : tie.Need-enum-told
+enum-told c = search needs
+
+same-length : tie.Need-same-length
+same-length c = search needs
+
+same-length-2 : tie.Need-same-length-2
+same-length-2 c = search needs
+
+returns : tie.Need-returns
+returns c = λ g p k st. (λ e. absurd (true≢false (sym e)), λ e. ended st (none-left (st .graph) (c .enum-told .given .1) (c .before .before .choose .ensures .1 (st .graph) (st .given))))
+
+half-requires : tie.Need-half-requires
+half-requires c κs =
+    let b = bounds-there (c .before .before .before .before .before .before .before .before .before .before .before .args .n) (c .before .v .given .1) (c .before .before .before .choose .ensures .0) in
+    (c .before .before .before .before .before .before .before .before .before .before .before .pre .0, (search needs, search needs), b .1, b .2)
+
+add-requires : tie.Need-add-requires
+add-requires c κs = search needs
+
+same-length-3 : tie.Need-same-length-3
+same-length-3 c = search needs
+
+same-length-4 : tie.Need-same-length-4
+same-length-4 c = search needs
+
+returns-2 : tie.Need-returns-2
+returns-2 c =
+    let next = c .before .before .before .before .before .before .before .half in
+    λ g p k st.
+    let pick = choice-there (st .graph) (c .before .before .before .before .before .before .before .before .before .v .given .1) (c .before .before .before .before .before .before .before .before .before .before .before .choose .ensures .1 (st .graph) (st .given)) in (
+      λ e. turned st _ _ _ (next .result) pick (next .ensures .1 (st .graph) p _ (st .given .shaped) (st .tree) (st .under) pick (st .solved)) (c .before .before .before .before .add .ensures),
+      λ e. absurd (true≢false e),
+    )
+
+pub turn-spec : {M : Type 1} → statement M
+turn-spec =
+    tie.close
+    (tie.spec
+    choose-requires
+    enum-known-v
+    enum-told
+    same-length
+    same-length-2
+    returns
+    half-requires
+    add-requires
+    same-length-3
+    same-length-4
+    returns-2)

@@ -1,0 +1,43 @@
+-- Where the guided descent stands: at a graph that the choices so far lead to, with its reduced form.
+use Prim.Native.Nat.{ℕ, _+_, _*_, _<_}
+use mathlib.Core.Path.{_≡_}
+use mathlib.Core.List.{List}
+use mathlib.Core.Logic.{_⊎_}
+use Rattle.base_nodeset.specs.declared.NodeSet.{NodeSet}
+use Rattle.graph.specs.Graph.{Graph, own}
+use Rattle.graph.specs.Placing.{Below, SolvedForm}
+use Rattle.theory_list.proofs.Choosing.{pairs}
+use Rattle.theory_list.proofs.Guided.{Leads}
+use Rattle.theory_list.proofs.Settled.{settled}
+use Rattle.rows.specs.Rows.{Rows}
+use Rattle.trees.specs.Trees.{TreeOf}
+use Rattle.solve_reduce.specs.Reduced.{RootsAre, Given}
+use Rattle.check_placing.specs.declared.guide.Edge.{Edge}
+
+abbrev pub Bounded : ℕ → Edge → Type 0
+Bounded n r = (r .leaf < n) × (r .root < n)
+
+-- the edge (l, r) leads from the choice between a and b into the half that p is in
+abbrev pub Into : Graph → List ℕ → ℕ → ℕ → ℕ → ℕ → Type 0
+Into g p a b l r = (l ≡ a) × (r ≡ own g b) × Below g p l r
+
+abbrev pub HalfOf : Graph → List ℕ → ℕ → ℕ → Edge → Type 0
+HalfOf g p a b e = Into g p a b (e .leaf) (e .root) ⊎ Into g p b a (e .leaf) (e .root)
+
+-- From g the choices lead to a graph with this reduced form. With the turns left its descent relation can outgrow all
+-- pairs, so they are enough.
+pub record Standing (g : Graph) (p : List ℕ) (n : ℕ) (parents : List ℕ) (roots : NodeSet) (under-low under-high : List ℕ) (turns : ℕ) (low high : List ℕ) : Type 0 where
+  pub graph : Graph
+  pub given : Given graph n low high
+  pub roots-are : RootsAre graph n roots
+  pub tree : TreeOf graph n parents
+  pub solved : SolvedForm graph p
+  pub under : Rows (Below graph p) under-low under-high
+  pub leads : (q : List ℕ) → Leads graph p q → Leads g p q
+  pub enough : n * n < turns + pairs graph
+
+-- No choice is left.
+pub record Arrived (g : Graph) (p : List ℕ) (n : ℕ) (low high : List ℕ) : Type 0 where
+  pub graph : Graph
+  pub given : Given graph n low high
+  pub leads : Leads g p (settled graph)

@@ -1,0 +1,96 @@
+// What can be read off a placing's bytes and its rows: that it is a placing, a solved form, and that no leaf carries two
+// roots.
+use solve_closure::cyclic;
+use base_nodeset::NodeSet;
+use rows::row;
+use sheet_decode::NONE;
+ghost use mathlib.Core.Path.{_≡_};
+ghost use mathlib.Core.Bool.{not, _&&_};
+ghost use Prim.Native.Nat.{_≤_, _<_};
+ghost use lib.ListN.{length};
+ghost use Rattle.base_finite.specs.Below.{any};
+ghost use Rattle.rows.specs.Rows.{Long, inRow};
+ghost use Rattle.check_placing.specs.Tests.{fits as fitting, placingIn, outside, downwardIn, singleIn};
+
+// 255, or a leaf where v is a root.
+fn fits(byte: u8, v: usize, n: usize, leaves: NodeSet, roots: NodeSet) -> bool
+    requires { ⌜ (v < n) × (n ≤ 128) ⌝ }
+    ensures { λ r. ⌜ r ≡ fitting n leaves roots v byte ⌝ }
+{
+    if byte == NONE {
+        return true;
+    }
+    let leaf = byte as usize;
+    if n <= leaf {
+        return false;
+    }
+    if roots.has(v) {
+        leaves.has(leaf)
+    } else {
+        false
+    }
+}
+
+pub fn is_placing(placing: &[u8], n: usize, leaves: NodeSet, roots: NodeSet) -> bool
+    requires { ⌜ (n ≤ 128) × (n ≤ length (now placing)) ⌝ }
+    ensures { λ r. ⌜ r ≡ placingIn n leaves roots (now (placing .entry)) ⌝ }
+{
+    for v in 0..n {
+        if !fits(placing[v], v, n, leaves, roots) {
+            return false;
+        }
+    }
+    true
+}
+
+// Some dominance edge of l's doesn't run downward.
+fn strays(heads_low: &[u64], heads_high: &[u64], low: &[u64], high: &[u64], l: usize) -> bool
+    requires { ⌜ Long (now «heads_low») (now «heads_high») × Long (now low) (now high) × (l < 128) ⌝ }
+    ensures { λ r. ⌜ r ≡ any 128 (outside (now («heads_low» .entry)) (now («heads_high» .entry)) (now (low .entry)) (now (high .entry)) l) ⌝ }
+{
+    let heads = row(heads_low, heads_high, l);
+    let below = row(low, high, l);
+    !heads.difference(below).is_empty()
+}
+
+fn downward(heads_low: &[u64], heads_high: &[u64], low: &[u64], high: &[u64], n: usize) -> bool
+    requires { ⌜ Long (now «heads_low») (now «heads_high») × Long (now low) (now high) × (n ≤ 128) ⌝ }
+    ensures { λ r. ⌜ r ≡ downwardIn n (now («heads_low» .entry)) (now («heads_high» .entry)) (now (low .entry)) (now (high .entry)) ⌝ }
+{
+    for l in 0..n {
+        if strays(heads_low, heads_high, low, high, l) {
+            return false;
+        }
+    }
+    true
+}
+
+// The rows are a forest's, and each dominance edge runs downward.
+pub fn solved(heads_low: &[u64], heads_high: &[u64], low: &[u64], high: &[u64], n: usize) -> bool
+    requires { ⌜ Long (now «heads_low») (now «heads_high») × Long (now low) (now high) × (n ≤ 128) ⌝ }
+    ensures { λ r. ⌜
+        r ≡ (not (any n (λ u. inRow (now (low .entry)) (now (high .entry)) u u))
+        && downwardIn n (now («heads_low» .entry)) (now («heads_high» .entry)) (now (low .entry)) (now (high .entry)))
+        ⌝ }
+{
+    if cyclic(low, high, n) {
+        return false;
+    }
+    downward(heads_low, heads_high, low, high, n)
+}
+
+// No leaf carries two roots.
+pub fn single(placing: &[u8], n: usize) -> bool
+    requires { ⌜ n ≤ length (now placing) ⌝ }
+    ensures { λ r. ⌜ r ≡ singleIn n (now (placing .entry)) ⌝ }
+{
+    let mut used = NodeSet::empty();
+    for v in 0..n {
+        let leaf = NodeSet::of_byte(placing[v]);
+        if !used.intersection(leaf).is_empty() {
+            return false;
+        }
+        used = leaf.union(used);
+    }
+    true
+}

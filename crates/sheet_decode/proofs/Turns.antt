@@ -1,0 +1,162 @@
+-- What a turn says of `commands`: the tests on the tables are the tests on the edges that they hold, and a table with
+-- the edge put in holds one edge more.
+use Prim.Native.Nat.{ℕ, _+_, _≤_, _<_}
+use mathlib.Core.Path.{_≡_, refl, sym, ap, _∙_}
+use mathlib.Core.List.{List, [], _∷_}
+use mathlib.Core.Bool.{Bool, true, false, cond, not, _||_, _&&_, true≢false}
+use mathlib.Core.Logic.{⊎-elim}
+use native.Mathlib.Numerals.{add-one}
+use native.Mathlib.Omega.{arith}
+use lib.Dec.{eqb, leb}
+use lib.ListN.{length, getD, set, drop, length-set}
+use lib.Seq.{getD-set-same, getD-set-other}
+use borrow.Author.Tests.{le-leb, lt-leb, leb-false, eq-eqb, ne-eqb, eqb-true, eqb-false}
+use Rattle.base_nodeset.specs.Set.{member}
+use Rattle.base_finite.proofs.Laws.{by-bool, or-left, or-right, or-none, eqb-sym}
+use Rattle.graph.specs.Graph.{Edge, Graph, among, entered, single, parent, none}
+use Rattle.graph.specs.Sheet.{Outcome, refused, beyond, whole, commands}
+use Rattle.graph.specs.declared.Refusal.{Refusal}
+use Rattle.graph.specs.declared.Refusal.the-variants.{Range, Tree as TreeRefusal, Repeated, TooMany}
+use Rattle.theory_format.proofs.Edges.{Within, parent-among, parent-unentered, among-cases}
+use Rattle.sheet_decode.specs.Step.{stepOf}
+use Rattle.sheet_decode.specs.declared.command.Step.the-variants.{Tree, Dominance, End, Refused as StepRefused}
+use Rattle.sheet_decode.specs.Turn.{Holds, Turned, treeAnswer, dominanceAnswer, ParentsAfter, HeadsAfter}
+use Rattle.sheet_decode.specs.declared.turn.Turn.{Turn}
+use Rattle.sheet_decode.specs.declared.turn.Turn.the-variants.{Next, Ended, Refused}
+use Rattle.sheet_decode.proofs.Steps.{taken, commands-step}
+
+pub beyond-first : (n x y : ℕ) → n ≤ x → beyond n x y ≡ true
+unfolding beyond
+beyond-first n x y h = rw (le-leb n x h)
+
+pub beyond-second : (n x y : ℕ) → n ≤ y → beyond n x y ≡ true
+unfolding beyond
+beyond-second n x y h = or-right (leb n x) (leb n y) (le-leb n y h)
+
+pub within : (n x y : ℕ) → x < n → y < n → beyond n x y ≡ false
+unfolding beyond
+within n x y h k = rw (lt-leb n x h, lt-leb n y k)
+
+-- a set of roots with r put in at l, in the tables
+pub heads-set : (low high : List ℕ) (l r lo hi : ℕ) → l < length low → l < length high
+    → ((j : ℕ) → member lo hi j ≡ (eqb j r || member (getD low l 0) (getD high l 0) j))
+    → (a b : ℕ) → member (getD (set low l lo) a 0) (getD (set high l hi) a 0) b ≡ (eqb l a && eqb r b || member (getD low a 0) (getD high a 0) b)
+heads-set low high l r lo hi hl hh law a b =
+    by-bool (eqb l a)
+    (λ (e : eqb l a ≡ true).
+    let q : l ≡ a = eqb-true l a e in
+    rw (e, ← q, getD-set-same low l lo 0 hl, getD-set-same high l hi 0 hh, law b, eqb-sym b r))
+    (λ (e : eqb l a ≡ false).
+    let other : a ≡ l → ⊥ = λ q. eqb-false l a e (sym q) in
+    rw (e, getD-set-other low l a lo 0 other, getD-set-other high l a hi 0 other))
+
+not-beyond : (n x y : ℕ) → beyond n x y ≡ false → (x < n) × (y < n)
+unfolding beyond
+not-beyond n x y e = let b = or-none (leb n x) (leb n y) e in (leb-false n x (b .0), leb-false n y (b .1))
+
+within-more : (n x y : ℕ) (es : List Edge) → beyond n x y ≡ false → Within n es → Within n ((x, y) ∷ es)
+within-more n x y es e w u v a =
+    let b = not-beyond n x y e in
+    ⊎-elim
+    (λ (q : (x ≡ u) × (y ≡ v)). (omega (arith, b .0, q .0), omega (arith, b .1, q .1)))
+    (λ (m : among es u v ≡ true). w u v m)
+    (among-cases (x, y) es u v a)
+
+-- a parent table shows which nodes have one
+pub parent-tells : (n : ℕ) (t : List Edge) (v : ℕ) → n ≤ 128 → Within n t → entered t v ≡ not (eqb (parent t v) none)
+parent-tells n t v h w =
+    by-bool (entered t v)
+    (λ (e : entered t v ≡ true).
+    let b = w (parent t v) v (parent-among t v e) in
+    rw (e, ne-eqb (parent t v) none (λ q. omega (arith, b .0))))
+    (λ (e : entered t v ≡ false). rw (e, eq-eqb (parent t v) none (parent-unentered t v e)))
+
+module _ (n : ℕ) (t d : List Edge) (bs parents low high : List ℕ) (edges : ℕ) (few : n ≤ 128) (holds : Holds n t d parents low high edges) where
+  tree-more : (p c : ℕ) → beyond n p c ≡ false → entered t c ≡ false → Holds n ((p, c) ∷ t) d (set parents c p) low high edges
+  unfolding parent single
+  tree-more p c b u =
+      let w = not-beyond n p c b in
+      record {
+        tree-within = within-more n p c t b (holds .tree-within);
+        one-parent = rw (u, holds .one-parent);
+        dominance-within = holds .dominance-within;
+        parents-long = length-set parents c p ∙ holds .parents-long;
+        low-long = holds .low-long;
+        high-long = holds .high-long;
+        parent-is = parent-now (w .1);
+        heads-are = holds .heads-are;
+        edges-are = holds .edges-are;
+      }
+    where
+      parent-now : c < n → (v : ℕ) → v < 128 → getD (set parents c p) v 0 ≡ parent ((p, c) ∷ t) v
+      parent-now cn v h =
+          by-bool (eqb c v)
+          (λ (e : eqb c v ≡ true).
+          let long = holds .parents-long in
+          rw (e, ← eqb-true c v e, getD-set-same parents c p 0 (omega arith)))
+          (λ (e : eqb c v ≡ false).
+          rw (e, getD-set-other parents c v p 0 (λ q. eqb-false c v e (sym q)), holds .parent-is v h))
+
+  pub tree-turn : (p c : ℕ) (x : Turn) (after : List ℕ) → stepOf bs ≡ Tree p c → x ≡ treeAnswer n p c edges parents → ParentsAfter p c x parents after
+      → Turned n t d bs edges x after low high
+  unfolding Turned taken
+  tree-turn p c x after s e a =
+      let step : commands n t d bs ≡ taken n t d (drop 3 bs) (Tree p c) = commands-step n t d bs ∙ rw s in
+      by-bool (beyond n p c)
+      (λ (b : beyond n p c ≡ true). let q : x ≡ Refused Range = e ∙ rw b in rw q (step ∙ rw b))
+      (λ (b : beyond n p c ≡ false).
+      let w = not-beyond n p c b in
+      let same : not (eqb (getD parents c 0) none) ≡ entered t c =
+      rw (holds .parent-is c (omega (arith, w .1))) (sym (parent-tells n t c few (holds .tree-within))) in
+      by-bool (eqb p c || entered t c)
+      (λ (f : (eqb p c || entered t c) ≡ true).
+      let q : x ≡ Refused TreeRefusal = e ∙ rw (b, same, f) in
+      rw q (step ∙ rw (b, f)))
+      (λ (f : (eqb p c || entered t c) ≡ false).
+      let q : x ≡ Next edges = e ∙ rw (b, same, f) in
+      let put : after ≡ set parents c p = rw q at a in
+      rw (q, put) ((p, c) ∷ t, d, step ∙ rw (b, f), tree-more p c b (or-none (eqb p c) (entered t c) f .1))))
+
+  dominance-more : (l r : ℕ) (low′ high′ : List ℕ) → beyond n l r ≡ false → length low′ ≡ length low → length high′ ≡ length high
+      → HeadsAfter l r (Next (edges + 1)) low high low′ high′ → Holds n t ((l, r) ∷ d) parents low′ high′ (edges + 1)
+  unfolding among
+  dominance-more l r low′ high′ b el eh a =
+      record {
+        tree-within = holds .tree-within;
+        one-parent = holds .one-parent;
+        dominance-within = within-more n l r d b (holds .dominance-within);
+        parents-long = holds .parents-long;
+        low-long = el ∙ holds .low-long;
+        high-long = eh ∙ holds .high-long;
+        parent-is = holds .parent-is;
+        heads-are = λ u v. a u v ∙ rw (holds .heads-are u v);
+        edges-are = rw (holds .edges-are) (add-one (length d));
+      }
+
+  pub dominance-turn : (l r : ℕ) (x : Turn) (low′ high′ : List ℕ) → length low′ ≡ length low → length high′ ≡ length high → stepOf bs ≡ Dominance l r
+      → x ≡ dominanceAnswer n l r edges low high → HeadsAfter l r x low high low′ high′ → Turned n t d bs edges x parents low′ high′
+  unfolding Turned taken
+  dominance-turn l r x low′ high′ el eh s e a =
+      let step : commands n t d bs ≡ taken n t d (drop 3 bs) (Dominance l r) = commands-step n t d bs ∙ rw s in
+      let same = holds .heads-are l r in
+      let long = holds .edges-are in
+      by-bool (beyond n l r)
+      (λ (b : beyond n l r ≡ true). let q : x ≡ Refused Range = e ∙ rw b in rw q (step ∙ rw b))
+      (λ (b : beyond n l r ≡ false).
+      by-bool (among d l r)
+      (λ (f : among d l r ≡ true). let q : x ≡ Refused Repeated = e ∙ rw (b, same, f) in rw q (step ∙ rw (b, f)))
+      (λ (f : among d l r ≡ false).
+      by-bool (leb 255 edges)
+      (λ (m : leb 255 edges ≡ true). let q : x ≡ Refused TooMany = e ∙ rw (b, same, f, m) in rw q (step ∙ rw (b, f, ← long, m)))
+      (λ (m : leb 255 edges ≡ false).
+      let q : x ≡ Next (edges + 1) = e ∙ rw (b, same, f, m) in
+      let put : HeadsAfter l r (Next (edges + 1)) low high low′ high′ = rw q at a in
+      rw q (t, (l, r) ∷ d, step ∙ rw (b, f, ← long, m), dominance-more l r low′ high′ b el eh put))))
+
+  pub end-turn : stepOf bs ≡ End → Turned n t d bs edges Ended parents low high
+  unfolding Turned taken
+  end-turn s = (commands-step n t d bs ∙ rw s, holds)
+
+  pub refused-turn : (why : Refusal) → stepOf bs ≡ StepRefused why → Turned n t d bs edges (Refused why) parents low high
+  unfolding Turned taken
+  refused-turn why s = commands-step n t d bs ∙ rw s

@@ -1,0 +1,50 @@
+-- A whole sheet, decoded.
+use Prim.Native.Nat.{ℕ}
+use mathlib.Core.Path.{_≡_}
+use mathlib.Core.List.{List, [], _∷_}
+use mathlib.Core.Bool.{cond, _&&_}
+use lib.Dec.{eqb, leb}
+use lib.ListN.{drop}
+use Rattle.graph.specs.Graph as spec
+use Rattle.graph.specs.Sheet.{Outcome, refused, accepted, commands, outcome}
+use Rattle.graph.specs.declared.Refusal.the-variants.{Missing, Command, Range}
+use Rattle.sheet_decode.specs.Turn.{Holds}
+use Rattle.sheet_decode.specs.declared.judge.Verdict.the-variants.{Accepted, Refused as VerdictRefused}
+use Rattle.sheet_decode.specs.declared.read.Header.{Header}
+use Rattle.sheet_decode.specs.declared.read.Header.the-variants.{Nodes, Refused as HeaderRefused}
+use Rattle.sheet_decode.specs.declared.read.Decoded.{Decoded}
+use Rattle.sheet_decode.specs.declared.read.Decoded.the-variants.{Sheet, Refused}
+use Rattle.sheet_decode.specs.declared.read.Graph.{Graph}
+use Rattle.sheet_decode.specs.declared.read.Answer.{Answer}
+
+-- the first command
+unfoldable pub headerOf : List ℕ → Header
+headerOf [] = HeaderRefused Missing
+headerOf (b ∷ []) = HeaderRefused (cond (eqb b 1) Missing Command)
+headerOf (b ∷ n ∷ rest) = cond (eqb b 1) (cond (leb 2 n && leb n 128) (Nodes n) (HeaderRefused Range)) (HeaderRefused Command)
+
+-- tables that hold no edge
+abbrev pub Blank : List ℕ → List ℕ → List ℕ → Type 0
+Blank parents low high = (n : ℕ) → Holds n [] [] parents low high 0
+
+-- What decoding says of an outcome: its refusal, or that the tables hold the graph.
+unfoldable pub Decodes : Outcome → Decoded → List ℕ → List ℕ → List ℕ → Type 0
+Decodes o (Refused why) parents low high = o ≡ refused why
+Decodes o (Sheet n k) parents low high =
+    (g : spec.Graph) × (o ≡ accepted g) × (g .nodes ≡ n) × Holds n (g .tree) (g .dominance) parents low high k
+
+abbrev pub Spelt : ℕ → List ℕ → Decoded → List ℕ → List ℕ → List ℕ → Type 0
+Spelt n bs x parents low high = Decodes (commands n [] [] bs) x parents low high
+
+abbrev pub Decoding : List ℕ → Decoded → List ℕ → List ℕ → List ℕ → Type 0
+Decoding bs x parents low high = Decodes (outcome bs) x parents low high
+
+-- The value is the graph's.
+pub record Value (g : spec.Graph) (v : Graph) : Type 0 where
+  pub nodes : v .n ≡ g .nodes
+  pub tables : Holds (g .nodes) (g .tree) (g .dominance) (v .parent) (v .low) (v .high) (v .edges)
+
+-- The answer to a sheet with the outcome o.
+abbrev pub Reads : Outcome → Answer → Type 0
+Reads (refused why) r = r .verdict ≡ VerdictRefused why
+Reads (accepted g) r = (r .verdict ≡ Accepted) × Value g (r .graph)

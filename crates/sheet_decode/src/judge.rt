@@ -1,0 +1,136 @@
+// What is tested after the last command: 4, 5, 6.
+use crate::NONE;
+use graph::Refusal;
+use base_nodeset::NodeSet;
+ghost use mathlib.Core.Path.{_≡_};
+ghost use mathlib.Core.List.{List};
+ghost use Prim.Native.Nat.{ℕ, _≤_, _<_};
+ghost use lib.ListN.{length};
+ghost use Rattle.graph.specs.Graph.{Edge};
+ghost use Rattle.sheet_decode.specs.Turn.{Holds};
+ghost use Rattle.sheet_decode.specs.Judge.{Parents, InnerSet, RootSet, WithParent, WithRoot, risesIn, cyclicIn, strayIn, astrayIn, Judged};
+
+pub enum Verdict {
+    Accepted,
+    Refused(Refusal),
+}
+
+// n edges lead up from v, one above the other.
+fn rises(parent: &[u8], n: usize, v: usize) -> bool
+    requires { ⌜ Parents n (now parent) × (v < n) ⌝ }
+    ensures { λ r. ⌜ r ≡ risesIn n (now (parent .entry)) v ⌝ }
+{
+    let mut at = v;
+    let mut left = n;
+    while 0 < left {
+        let above = parent[at];
+        if above == NONE {
+            return false;
+        }
+        at = above as usize;
+        left -= 1;
+    }
+    true
+}
+
+// 4: tree edges form a cycle.
+fn cyclic(parent: &[u8], n: usize) -> bool
+    requires { ⌜ Parents n (now parent) ⌝ }
+    ensures { λ r. ⌜ r ≡ cyclicIn n (now (parent .entry)) ⌝ }
+{
+    for v in 0..n {
+        if rises(parent, n, v) {
+            return true;
+        }
+    }
+    false
+}
+
+fn with_parent(set: NodeSet, above: u8) -> NodeSet
+    ensures { λ r. ⌜ WithParent set above r ⌝ }
+{
+    if above < 128 {
+        set.with(above as usize)
+    } else {
+        set
+    }
+}
+
+// The nodes that are some node's parent.
+pub fn inner_nodes(parent: &[u8], n: usize) -> NodeSet
+    requires { ⌜ Parents n (now parent) ⌝ }
+    ensures { λ r. ⌜ InnerSet n (now (parent .entry)) r ⌝ }
+{
+    let mut set = NodeSet::empty();
+    for v in 0..n {
+        set = with_parent(set, parent[v]);
+    }
+    set
+}
+
+fn with_root(set: NodeSet, v: usize, above: u8) -> NodeSet
+    requires { ⌜ v < 128 ⌝ }
+    ensures { λ r. ⌜ WithRoot set v above r ⌝ }
+{
+    if above == NONE { set.with(v) } else { set }
+}
+
+// The nodes without a parent.
+pub fn root_nodes(parent: &[u8], n: usize) -> NodeSet
+    requires { ⌜ Parents n (now parent) ⌝ }
+    ensures { λ r. ⌜ RootSet n (now (parent .entry)) r ⌝ }
+{
+    let mut set = NodeSet::empty();
+    for v in 0..n {
+        set = with_root(set, v, parent[v]);
+    }
+    set
+}
+
+// Some dominance edge from l doesn't go from a leaf to a root.
+fn stray(row: NodeSet, l: usize, inner: NodeSet, roots: NodeSet) -> bool
+    requires { ⌜ l < 128 ⌝ }
+    ensures { λ r. ⌜ r ≡ strayIn row l inner roots ⌝ }
+{
+    if inner.has(l) {
+        return !row.is_empty();
+    }
+    !row.difference(roots).is_empty()
+}
+
+// 6: a dominance edge doesn't go from a leaf to a root.
+fn astray(low: &[u64], high: &[u64], n: usize, inner: NodeSet, roots: NodeSet) -> bool
+    requires { ⌜ (n ≤ 128) × (length (now low) ≡ 128) × (length (now high) ≡ 128) ⌝ }
+    ensures { λ r. ⌜ r ≡ astrayIn n (now (low .entry)) (now (high .entry)) inner roots ⌝ }
+{
+    for l in 0..n {
+        let row = NodeSet {
+            low: low[l],
+            high: high[l],
+        };
+        if stray(row, l, inner, roots) {
+            return true;
+        }
+    }
+    false
+}
+
+pub fn judge(n: usize, parent: &[u8], low: &[u64], high: &[u64]) -> Verdict
+    requires { ⌜ Parents n (now parent) × (length (now low) ≡ 128) × (length (now high) ≡ 128) ⌝ }
+    ensures { λ r. ⌜
+        ((t d : List Edge) (edges : ℕ) → Holds n t d (now (parent .entry)) (now (low .entry)) (now (high .entry)) edges → Judged n t d r)
+        ⌝ }
+{
+    if cyclic(parent, n) {
+        return Verdict::Refused(Refusal::Tree);
+    }
+    let inner = inner_nodes(parent, n);
+    let roots = root_nodes(parent, n);
+    if !roots.difference(inner).is_empty() {
+        return Verdict::Refused(Refusal::Bare);
+    }
+    if astray(low, high, n, inner, roots) {
+        return Verdict::Refused(Refusal::Ends);
+    }
+    Verdict::Accepted
+}

@@ -1,0 +1,90 @@
+use denote.Ref.{now}
+use lib.ListN.{getD}
+use Rattle.sheet_encode.specs.Tidy.{rowBytes, dominancePart}
+use Rattle.sheet_encode.proofs.Runs.{dominance-part-none, dominance-part-more, dominance-part-longer}
+use Prim.Native.Nat.{_+_, _-_, _≤_}
+use mathlib.Core.Path.{_≡_, refl, _∙_}
+use native.Mathlib.Omega.{arith}
+use lib.ListN.{length}
+use Rattle.base_finite.specs.Stores.{Written}
+use Rattle.base_finite.proofs.Stores.{room, written-none, written-more}
+use borrow.Author.Needs.{needs}
+use Rattle.sheet_encode.proofs.write_dominance.Statement.{statement}
+use Rattle.sheet_encode.proofs.write_dominance.Tie as tie
+
+abbrev Inv-loop : tie.InvT-loop
+Inv-loop low high n out₀ start at₀ l₀ out at l = (l ≤ n) × (length out ≡ length out₀) × Written out₀ start (dominancePart l low high) out at
+
+abbrev μ-loop : tie.MeasureT-loop
+μ-loop low high n out₀ start at₀ l₀ out at l = n - l
+
+loop-holds : tie.Need-loop-holds Inv-loop μ-loop
+loop-holds c = (omega arith, refl, rw dominance-part-none (written-none _ _))
+
+mul-t10 : tie.Need-mul-t10 Inv-loop μ-loop
+mul-t10 c = search needs
+
+shared-slice-read-t12 : tie.Need-shared-slice-read-t12 Inv-loop μ-loop
+shared-slice-read-t12 c = search needs
+
+mul-t13 : tie.Need-mul-t13 Inv-loop μ-loop
+mul-t13 c = search needs
+
+shared-slice-read-t15 : tie.Need-shared-slice-read-t15 Inv-loop μ-loop
+shared-slice-read-t15 c = search needs
+
+cast-write-row : tie.Need-cast-write-row Inv-loop μ-loop
+cast-write-row c = search needs
+
+write-row-requires : tie.Need-write-row-requires Inv-loop μ-loop
+write-row-requires c κs =
+    let l = c .before .before .before .before .loop in
+    let a = c .before .before .before .before .before .before .before .before in
+    let low = a .args .low .now in
+    let high = a .args .high .now in
+    let whole = dominance-part-longer (l .l + 1) (a .args .n) low high (omega arith) in
+    let fits = room (a .args .out .now) (a .args .start) (dominancePart (l .l) low high) (l .out) (l .at) (rowBytes (l .l) (record { low = getD low (l .l) 0; high = getD high (l .l) 0 })) (dominancePart (a .args .n) low high) (l .inv .2) (rw dominance-part-more at whole) (a .pre .3) in
+    omega (arith, fits)
+
+add-l : tie.Need-add-l Inv-loop μ-loop
+add-l c = search needs
+
+loop-less : tie.Need-loop-less Inv-loop μ-loop
+loop-less c = search needs
+
+loop-again : tie.Need-loop-again Inv-loop μ-loop
+loop-again c =
+    let l = c .before .before .before .before .before .before .before .loop in
+    let k = c .before .before .write-row in (
+      omega arith,
+      k .kept .1 .1 .0 ∙ l .inv .1,
+      rw dominance-part-more (written-more _ _ _ (l .out) (l .at) _ _ _ (l .inv .2) (k .ensures)),
+    )
+
+same-length : tie.Need-same-length Inv-loop μ-loop
+same-length c = search needs
+
+returns : tie.Need-returns Inv-loop μ-loop
+returns c =
+    let l = c .before .loop in
+    let all : l .l ≡ c .before .before .before .before .before .args .n = omega arith in
+    rw (← all) (l .inv .2)
+
+pub write-dominance-spec : {M : Type 1} → statement M
+write-dominance-spec =
+    tie.close
+    (tie.spec
+    Inv-loop
+    μ-loop
+    loop-holds
+    mul-t10
+    shared-slice-read-t12
+    mul-t13
+    shared-slice-read-t15
+    cast-write-row
+    write-row-requires
+    add-l
+    loop-less
+    loop-again
+    same-length
+    returns)

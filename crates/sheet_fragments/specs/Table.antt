@@ -1,0 +1,44 @@
+-- The answer of the fragment table, and every byte of the lent buffer afterwards.
+use Prim.Native.Nat.{ℕ, _*_}
+use mathlib.Core.Path.{_≡_}
+use mathlib.Core.List.{List, [], _∷_, _++_}
+use mathlib.Core.Bool.{cond}
+use lib.Dec.{ltb}
+use lib.ListN.{length, drop}
+use Rattle.graph.specs.Graph.{Graph}
+use Rattle.graph.specs.Sheet.{Outcome, refused, accepted}
+use Rattle.graph.specs.Table.{fragments}
+use Rattle.graph.specs.declared.Fragment.{Fragment}
+use Rattle.graph.specs.declared.Refusal.the-variants.{SmallBuffer}
+use Rattle.rows.specs.Rows.{Tables}
+use Rattle.sheet_fragments.specs.declared.Table.{Table}
+use Rattle.sheet_fragments.specs.declared.Table.the-variants.{Filled, Refused}
+
+-- "root, lowest leaf, number of leaves": three bytes a record
+unfoldable pub flat : List Fragment → List ℕ
+flat [] = []
+flat (f ∷ fs) = f .root ∷ f .«lowest_leaf» ∷ f .leaves ∷ flat fs
+
+-- the bytes that the table takes
+abbrev pub size : Graph → ℕ
+size g = 3 * length (fragments g)
+
+-- 1 to 8 of the sheet, then 10
+abbrev pub answerOf : Outcome → List ℕ → Table
+answerOf (refused why) out = Refused why
+answerOf (accepted g) out = cond (ltb (length out) (size g)) (Refused SmallBuffer) (Filled (length (fragments g)))
+
+-- "later records stay unwritten", and a refusal writes nothing
+abbrev pub bytesOf : Outcome → List ℕ → List ℕ
+bytesOf (refused why) out = out
+bytesOf (accepted g) out = cond (ltb (length out) (size g)) out (flat (fragments g) ++ drop (size g) out)
+
+-- The answer r to a sheet with the outcome o, and the lent bytes before and after.
+pub record Tabled (o : Outcome) (r : Table) (old new : List ℕ) : Type 0 where
+  pub answer : r ≡ answerOf o old
+  pub bytes : new ≡ bytesOf o old
+
+-- What the table of parents says of each graph that it holds.
+abbrev pub TableIn : ℕ → List ℕ → Table → List ℕ → List ℕ → Type 0
+TableIn n parents r old new =
+    (g : Graph) (low high : List ℕ) (edges : ℕ) → Tables g n parents low high edges → Tabled (accepted g) r old new

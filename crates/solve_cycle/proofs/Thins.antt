@@ -1,0 +1,250 @@
+-- Dropping edges one by one: the rest of a graph's edges is a graph in tables again, and an edge that was needed stays
+-- needed when others go. So when all edges are settled, those kept are a minimal set.
+use Prim.Native.Nat.{ℕ, _+_, _≤_, _<_}
+use mathlib.Core.Path.{_≡_, refl, sym, subst₂, _∙_}
+use mathlib.Core.List.{List, [], _∷_}
+use mathlib.Core.Bool.{Bool, true, false, not, _&&_, _||_, true≢false}
+use mathlib.Core.Logic.{⊎-elim, _↔_}
+use native.Mathlib.Omega.{arith}
+use lib.Dec.{eqb, ltb}
+use lib.ListN.{length, getD, set, length-set}
+use lib.Seq.{getD-set-same, getD-set-other, set-set, set-getD}
+use borrow.Author.Tests.{eq-eqb, eqb-true, eqb-false, lt-ltb, ltb-true, ltb-false, not-true}
+use Rattle.base_finite.proofs.Laws.{by-bool, and-both, or-cases, not-holding, test-ext}
+use Rattle.base_nodeset.specs.Set.{mem, Removed}
+use Rattle.base_nodeset.specs.declared.NodeSet.{NodeSet}
+use Rattle.graph.specs.Graph.{Edge, Graph, among, distinct, root, leaf, WellFormed}
+use Rattle.graph.specs.Order.{without, removed}
+use Rattle.graph.specs.Placing.{Solvable}
+use Rattle.theory_format.proofs.Edges.{distinct-cons}
+use Rattle.theory_forest.proofs.Shape.{Shaped, without-among, well-formed-shaped}
+use Rattle.theory_forest.proofs.Table.{Among}
+use Rattle.theory_list.proofs.Redundancy.{without-lacks, without-keeps}
+use Rattle.theory_cycle.proofs.Alone.{alone}
+use Rattle.theory_cycle.proofs.Minimal.{Minimal, still-needed}
+use Rattle.rows.specs.Rows.{inRow, Tables}
+use Rattle.solve_cycle.specs.Thinning.{Unsolved, TakenOut, Thinned, andEdge, before}
+
+-- the list without an edge
+
+without-is : (es : List Edge) (l r a b : ℕ) → among (without es l r) a b ≡ (not (eqb a l && eqb b r) && among es a b)
+without-is es l r a b =
+    by-bool (eqb a l && eqb b r)
+    (λ (t : (eqb a l && eqb b r) ≡ true).
+    let h = and-both (eqb a l) (eqb b r) t in
+    rw t (not-holding (among (without es l r) a b) (λ m. without-lacks es l r (subst₂ (Among (without es l r)) (eqb-true a l (h .0)) (eqb-true b r (h .1)) m))))
+    (λ (t : (eqb a l && eqb b r) ≡ false).
+    rw t (test-ext (among (without es l r) a b) (among es a b)
+    (without-among es l r a b)
+    (without-keeps es l r a b (λ q. true≢false (sym (rw (eq-eqb a l (q .0), eq-eqb b r (q .1))) ∙ t)))))
+
+without-shorter : (es : List Edge) (l r : ℕ) → length (without es l r) ≤ length es
+unfolding without
+without-shorter [] l r = omega arith
+without-shorter (e ∷ es) l r =
+    let ih : length (without es l r) ≤ length es = without-shorter es l r in
+    by-bool (eqb (e .0) l && eqb (e .1) r) (λ t. rw t (omega arith)) (λ t. rw t (omega arith))
+
+without-distinct : (es : List Edge) (l r : ℕ) → distinct es ≡ true → distinct (without es l r) ≡ true
+unfolding without distinct
+without-distinct [] l r d = refl
+without-distinct (e ∷ es) l r d =
+    let p = distinct-cons e es d in
+    let ih : distinct (without es l r) ≡ true = without-distinct es l r (p .1) in
+    let fresh : among (without es l r) (e .0) (e .1) ≡ false =
+    not-holding (among (without es l r) (e .0) (e .1)) (λ m. true≢false (sym (without-among es l r (e .0) (e .1) m) ∙ p .0)) in
+    by-bool (eqb (e .0) l && eqb (e .1) r) (λ t. rw t ih) (λ t. rw (t, fresh) ih)
+
+-- the graph without an edge is in the tables that it is taken out of
+
+removed-well-formed : (g : Graph) (l r : ℕ) → WellFormed g → WellFormed (removed g l r)
+unfolding removed leaf root
+removed-well-formed g l r w =
+    record {
+      some-nodes = w .some-nodes;
+      few-nodes = w .few-nodes;
+      tree-within = w .tree-within;
+      one-parent = w .one-parent;
+      no-tree-cycle = w .no-tree-cycle;
+      on-tree-edge = w .on-tree-edge;
+      leaf-to-root = λ x y m. w .leaf-to-root x y (without-among (g .dominance) l r x y m);
+      few-edges = omega (arith, without-shorter (g .dominance) l r, w .few-edges);
+      all-different = without-distinct (g .dominance) l r (w .all-different);
+    }
+
+pub removed-tables : (g : Graph) (n : ℕ) (parents low high : List ℕ) (edges l r : ℕ) (low′ high′ : List ℕ) → Tables g n parents low high edges → TakenOut l r low high low′ high′
+    → Tables (removed g l r) n parents low′ high′ (length (without (g .dominance) l r))
+unfolding removed
+removed-tables g n parents low high edges l r low′ high′ t o =
+    record {
+      well-formed = removed-well-formed g l r (t .well-formed);
+      nodes = t .nodes;
+      holds = record {
+        tree-within = t .holds .tree-within;
+        one-parent = t .holds .one-parent;
+        dominance-within = λ x y m. t .holds .dominance-within x y (without-among (g .dominance) l r x y m);
+        parents-long = t .holds .parents-long;
+        low-long = o .low-long ∙ t .holds .low-long;
+        high-long = o .high-long ∙ t .holds .high-long;
+        parent-is = t .holds .parent-is;
+        heads-are = λ a b. o .row-is a b ∙ rw (t .holds .heads-are a b) (sym (without-is (g .dominance) l r a b));
+        edges-are = refl;
+      };
+    }
+
+-- row l without r, stored
+pub row-out : (low high : List ℕ) (l r : ℕ) (row rest : NodeSet) → length low ≡ 128 → length high ≡ 128 → l < 128 → ((v : ℕ) → mem row v ≡ inRow low high l v) → Removed row r rest
+    → TakenOut l r low high (set low l (rest .low)) (set high l (rest .high))
+row-out low high l r row rest ll hl small is out =
+    record {
+      low-long = simp length-set;
+      high-long = simp length-set;
+      row-is = λ a b.
+          by-bool (eqb a l)
+          (λ (e : eqb a l ≡ true).
+          let q : a ≡ l = eqb-true a l e in
+          rw (e, q, getD-set-same low l (rest .low) 0 (omega arith), getD-set-same high l (rest .high) 0 (omega arith))
+          (out b ∙ rw (is b)))
+          (λ (e : eqb a l ≡ false).
+          let other : a ≡ l → ⊥ = eqb-false a l e in
+          rw (e, getD-set-other low l a (rest .low) 0 other, getD-set-other high l a (rest .high) 0 other));
+      low-back = set-set low l (rest .low) (getD low l 0) ∙ set-getD low l 0;
+      high-back = set-set high l (rest .high) (getD high l 0) ∙ set-getD high l 0;
+    }
+
+-- one edge settled
+
+-- the answer is that of the graph without the edge
+abbrev pub Answers : ℕ → List ℕ → List ℕ → List ℕ → Bool → Type 0
+Answers n parents low high b = (g : Graph) (edges : ℕ) → Tables g n parents low high edges → (b ≡ true) ↔ Solvable g
+
+module _ (g : Graph) (n : ℕ) (parents low high : List ℕ) (settled : ℕ → ℕ → Bool) (t : Thinned g n parents low high settled) where
+  -- more may be called settled, where the rows have none of it
+  pub thinned-map : (more : ℕ → ℕ → Bool) → ((a b : ℕ) → inRow low high a b ≡ true → more a b ≡ true → settled a b ≡ true) → Thinned g n parents low high more
+  thinned-map more f =
+      record {
+        kept = t .kept;
+        inside = t .inside;
+        tables = t .tables;
+        unsolvable = t .unsolvable;
+        needed = λ a b h m. t .needed a b (f a b (t .tables .holds .heads-are a b ∙ m) h) m;
+      }
+
+  -- an edge of the rows is between nodes
+  pub row-within : (a b : ℕ) → inRow low high a b ≡ true → (a < n) × (b < n)
+  row-within a b m =
+      let w = t .tables .holds .dominance-within a b (sym (t .tables .holds .heads-are a b) ∙ m) in
+      let same = t .tables .nodes in
+      (omega (arith, w .0), omega (arith, w .1))
+
+  module _ (l r : ℕ) (low′ high′ : List ℕ) (o : TakenOut l r low high low′ high′) (b : Bool) (answer : Answers n parents low′ high′ b) where
+    answered : (b ≡ true) ↔ Solvable (removed (alone g (t .kept)) l r)
+    answered =
+        answer (removed (alone g (t .kept)) l r) (length (without (t .kept) l r))
+        (removed-tables (alone g (t .kept)) n parents low high (length (t .kept)) l r low′ high′ (t .tables) o)
+
+    stays : b ≡ true → Thinned g n parents low high (andEdge settled l r)
+    stays so =
+        record {
+          kept = t .kept;
+          inside = t .inside;
+          tables = t .tables;
+          unsolvable = t .unsolvable;
+          needed = λ x y h m.
+              ⊎-elim
+              (λ (s : settled x y ≡ true). t .needed x y s m)
+              (λ (s : (eqb x l && eqb y r) ≡ true).
+              let q = and-both (eqb x l) (eqb y r) s in
+              let i : x ≡ l = eqb-true x l (q .0) in
+              let j : y ≡ r = eqb-true y r (q .1) in
+              rw (i, j) (answered .0 so))
+              (or-cases (settled x y) (eqb x l && eqb y r) h);
+        }
+
+    pub settle-stays : b ≡ true → Thinned g n parents (set low′ l (getD low l 0)) (set high′ l (getD high l 0)) (andEdge settled l r)
+    settle-stays y = rw (o .low-back, o .high-back) (stays y)
+
+    pub settle-goes : b ≡ false → Thinned g n parents low′ high′ (andEdge settled l r)
+    unfolding removed
+    settle-goes z =
+        let es : List Edge = without (t .kept) l r in
+        record {
+          kept = es;
+          inside = λ x y m. t .inside x y (without-among (t .kept) l r x y m);
+          tables = removed-tables (alone g (t .kept)) n parents low high (length (t .kept)) l r low′ high′ (t .tables) o;
+          unsolvable = λ s. true≢false (sym (answered .1 s) ∙ z);
+          needed = λ x y h m.
+              ⊎-elim
+              (λ (s : settled x y ≡ true).
+              still-needed (alone g (t .kept)) es (without-among (t .kept) l r) x y (t .needed x y s (without-among (t .kept) l r x y m)))
+              (λ (s : (eqb x l && eqb y r) ≡ true).
+              let q = and-both (eqb x l) (eqb y r) s in
+              absurd (without-lacks (t .kept) l r (subst₂ (Among es) (eqb-true x l (q .0)) (eqb-true y r (q .1)) m)))
+              (or-cases (settled x y) (eqb x l && eqb y r) h);
+        }
+
+-- a row, one edge after the other
+
+-- the edges from leaves below l, and those from l to what is left no more
+abbrev pub rowSettled : ℕ → NodeSet → ℕ → ℕ → Bool
+rowSettled l left a b = ltb a l || eqb a l && not (mem left b)
+
+module _ (g : Graph) (n : ℕ) (parents low high : List ℕ) (l : ℕ) where
+  pub row-start : (left : NodeSet) → ((v : ℕ) → mem left v ≡ inRow low high l v) → Thinned g n parents low high (before l) → Thinned g n parents low high (rowSettled l left)
+  row-start left is t =
+      thinned-map g n parents low high (before l) t (rowSettled l left) (λ a b m h.
+      ⊎-elim
+      (λ (s : ltb a l ≡ true). s)
+      (λ (s : (eqb a l && not (mem left b)) ≡ true).
+      let q = and-both (eqb a l) (not (mem left b)) s in
+      let i : a ≡ l = eqb-true a l (q .0) in
+      let there : mem left b ≡ true = is b ∙ (rw i at m) in
+      absurd (true≢false (sym there ∙ not-true (mem left b) (q .1))))
+      (or-cases (ltb a l) (eqb a l && not (mem left b)) h))
+
+  pub row-more : (left rest : NodeSet) (r : ℕ) → Removed left r rest → Thinned g n parents low high (andEdge (rowSettled l left) l r) → Thinned g n parents low high (rowSettled l rest)
+  row-more left rest r out t =
+      thinned-map g n parents low high (andEdge (rowSettled l left) l r) t (rowSettled l rest) (λ a b m h.
+      settled (ltb a l) (eqb a l) (eqb b r) (mem left b) (rw (out b) at h))
+    where
+      settled : (p q e f : Bool) → (p || q && not (not e && f)) ≡ true → ((p || q && not f) || q && e) ≡ true
+      settled true q e f h = refl
+      settled false true true true h = refl
+      settled false true true false h = refl
+      settled false true false true h = h
+      settled false true false false h = refl
+      settled false false e f h = h
+
+  pub row-end : (left : NodeSet) → n ≤ 128 → ((k : ℕ) → k < 128 → mem left k ≡ false) → Thinned g n parents low high (rowSettled l left) → Thinned g n parents low high (before (l + 1))
+  row-end left few none t =
+      thinned-map g n parents low high (rowSettled l left) t (before (l + 1)) (λ a b m h.
+      let w = row-within g n parents low high (rowSettled l left) t a b m in
+      let out : mem left b ≡ false = none b (omega (arith, w .1)) in
+      by-bool (ltb a l)
+      (λ (s : ltb a l ≡ true). rw s)
+      (λ (s : ltb a l ≡ false).
+      let i : a ≡ l = omega (arith, ltb-false a l s, ltb-true a (l + 1) h) in
+      rw (s, eq-eqb a l i, out)))
+
+-- the first and the last
+
+pub thinned-start : (n : ℕ) (parents low high : List ℕ) (s : Unsolved n parents low high) → Thinned (s .graph) n parents low high (before 0)
+thinned-start n parents low high s =
+    record {
+      kept = s .graph .dominance;
+      inside = λ l r m. m;
+      tables = rw (← (s .tables .holds .edges-are)) (s .tables);
+      unsolvable = s .unsolvable;
+      needed = λ l r h m. absurd (omega (arith, ltb-true l 0 h));
+    }
+
+pub thinned-minimal : (g : Graph) (n : ℕ) (parents low high : List ℕ) (t : Thinned g n parents low high (before n)) → Minimal (alone g (t .kept))
+thinned-minimal g n parents low high t =
+    record {
+      unsolvable = t .unsolvable;
+      needed = λ l r m.
+          t .needed l r (lt-ltb l n (row-within g n parents low high (before n) t l r (t .tables .holds .heads-are l r ∙ m) .0)) m;
+    }
+
+pub thinned-shaped : (g : Graph) (n : ℕ) (parents low high : List ℕ) (settled : ℕ → ℕ → Bool) (t : Thinned g n parents low high settled) → Shaped (alone g (t .kept))
+thinned-shaped g n parents low high settled t = well-formed-shaped (t .tables .well-formed)

@@ -1,0 +1,143 @@
+-- The choice, from the leaves whose edges to a root stay: a root has two of them where there is a second, and those roots are the
+-- forks.
+use Prim.Native.Nat.{ℕ, _+_, _≤_, _<_}
+use mathlib.Core.Path.{_≡_, sym, ap, subst, _∙_}
+use mathlib.Core.List.{List}
+use mathlib.Core.Bool.{Bool, true, false, not, _&&_}
+use mathlib.Core.Logic.{inl, inr, ⊎-elim}
+use native.Mathlib.Nat.{eq-or-lt-of-le}
+use native.Mathlib.Omega.{arith}
+use lib.Dec.{eqb, ltb}
+use borrow.Author.Tests.{eqb-true, eqb-false, not-true, ne-eqb, ltb-true, ltb-false, le-ltb}
+use Rattle.base_finite.specs.Below.{least}
+use Rattle.base_finite.proofs.Laws.{by-bool, and-both, and-false, least-none, least-at, least-below, least-holds}
+use Rattle.base_finite.proofs.Bounds.{least-ext}
+use Rattle.base_nodeset.specs.Set.{mem, Removed}
+use Rattle.base_nodeset.specs.declared.NodeSet.{NodeSet}
+use Rattle.graph.specs.Graph.{Graph}
+use Rattle.graph.specs.Order.{Kept, Choice}
+use Rattle.theory_list.proofs.Redundancy.{kept-within}
+use Rattle.theory_list.proofs.Choosing.{Unforked}
+use Rattle.rows.specs.Rows.{inRow}
+use Rattle.solve_reduce.specs.Reduced.{second, several, Given}
+
+-- the numbers but the lowest
+abbrev others : (ℕ → Bool) → ℕ → Bool
+others p k = not (eqb k (least 128 p)) && p k
+
+module _ (p : ℕ → Bool) (first : ℕ) (is : first ≡ least 128 p) where
+  none-there : 128 ≤ first → 128 ≡ second p
+  none-there h =
+      sym (least-none 128 (others p) (λ k small.
+      let out : p k ≡ false = least-below 128 p k (omega arith) in
+      rw out (and-false (not (eqb k (least 128 p))))))
+
+pub second-none : (s : NodeSet) (first : ℕ) → first ≡ least 128 (mem s) → 128 ≤ first → 128 ≡ second (mem s)
+second-none s first is h = none-there (mem s) first is h
+
+pub second-some : (s : NodeSet) (first : ℕ) → first ≡ least 128 (mem s) → (rest : NodeSet) (r : ℕ) → Removed s first rest → r ≡ least 128 (mem rest) → r ≡ second (mem s)
+second-some s first is rest r gone e = e ∙ least-ext 128 (mem rest) (others (mem s)) (λ k h. gone k ∙ rw is)
+
+pub second-ext : (p q : ℕ → Bool) → ((k : ℕ) → p k ≡ q k) → second p ≡ second q
+second-ext p q same =
+    least-ext 128 (others p) (others q) (λ k h. rw (same k, least-ext 128 p q (λ j _. same j)))
+
+pub several-ext : (p q : ℕ → Bool) → ((k : ℕ) → p k ≡ q k) → several p ≡ several q
+several-ext p q same = ap (λ (m : ℕ). ltb m 128) (second-ext p q same)
+
+pub several-none : (p : ℕ → Bool) → ((k : ℕ) → p k ≡ false) → several p ≡ false
+several-none p no-one =
+    let out : least 128 (others p) ≡ 128 = least-none 128 (others p) (λ k h. rw (no-one k) (and-false (not (eqb k (least 128 p))))) in
+    rw out (le-ltb 128 128 (omega arith))
+
+-- where there is one, it is above the lowest
+module _ (p : ℕ → Bool) (b : ℕ) (is : b ≡ second p) (some : b < 128) where
+  b-parts : (b ≡ least 128 p → ⊥) × (p b ≡ true)
+  b-parts =
+      let found : least 128 (others p) < 128 = omega arith in
+      let x = and-both (not (eqb b (least 128 p))) (p b) (subst (λ (z : ℕ). others p z ≡ true) (sym is) (least-holds 128 (others p) found)) in
+      (eqb-false b (least 128 p) (not-true (eqb b (least 128 p)) (x .0)), x .1)
+
+  lowest-less : least 128 p < b
+  lowest-less = ⊎-elim (λ (i : least 128 p ≡ b). absurd (b-parts .0 (sym i))) (λ (i : least 128 p < b). i) (eq-or-lt-of-le (least-at 128 p b some (b-parts .1)))
+
+pub lowest-below : (s : NodeSet) (b : ℕ) → b ≡ second (mem s) → b < 128 → least 128 (mem s) < b
+lowest-below s b is some = lowest-less (mem s) b is some
+
+module _ (g : Graph) (n : ℕ) (low high : List ℕ) (is : Given g n low high) where
+  -- the leaves whose edges to v stay
+  abbrev leaves : ℕ → ℕ → Bool
+  leaves v l = inRow low high (n + v) l
+
+  module _ (v : ℕ) (within : v < n) where
+    in-leaves : (l : ℕ) → Kept g l v → leaves v l ≡ true
+    in-leaves l k = is .reduced .edges (is .loopless) v l within .1 k
+
+    leaves-in : (l : ℕ) → leaves v l ≡ true → Kept g l v
+    leaves-in l m = is .reduced .edges (is .loopless) v l within .0 m
+
+    small : (l : ℕ) → Kept g l v → (l < n) × (l < 128)
+    small l k =
+        let w = kept-within g (is .shaped) l v k in
+        (omega (arith, w .0, is .nodes), omega (arith, w .0, is .shaped .few-nodes))
+
+    another : (l : ℕ) → Kept g l v → (l ≡ least 128 (leaves v) → ⊥) → second (leaves v) ≤ l
+    another l k other = least-at 128 (others (leaves v)) l (small l k .1) (rw (ne-eqb l (least 128 (leaves v)) other, in-leaves l k))
+
+    only-lowest : several (leaves v) ≡ false → (l : ℕ) → Kept g l v → l ≡ least 128 (leaves v)
+    only-lowest one l k =
+        let high-up : 128 ≤ second (leaves v) = ltb-false (second (leaves v)) 128 one in
+        by-bool (eqb l (least 128 (leaves v)))
+        (λ e. eqb-true l (least 128 (leaves v)) e)
+        (λ e. absurd (omega (arith, another l k (eqb-false l (least 128 (leaves v)) e), small l k .1)))
+
+    one-leaf : several (leaves v) ≡ false → (l m : ℕ) → Kept g l v → Kept g m v → l ≡ m
+    one-leaf one l m k j = only-lowest one l k ∙ sym (only-lowest one m j)
+
+  module _ (forks : NodeSet) (are : (w : ℕ) → mem forks w ≡ inRow low high (n + n) w) (v : ℕ) (lowest : v ≡ least 128 (mem forks)) where
+    -- no root below v has two leaves
+    below-v : (w l m : ℕ) → w < n → w < v → Kept g l w → Kept g m w → l ≡ m
+    below-v w l m small-w less k j =
+        one-leaf w small-w (sym (is .reduced .forks w small-w) ∙ sym (are w) ∙ least-below 128 (mem forks) w (omega arith)) l m k j
+
+    kept-below : (w l : ℕ) → Kept g l w → w < n
+    kept-below w l k = omega (arith, kept-within g (is .shaped) l w k .1, is .nodes)
+
+    pub unforked : n ≤ v → Unforked g
+    unforked all w l m k j = let h : w < n = kept-below w l k in below-v w l m h (omega arith) k j
+
+    module _ (within : v < n) (from : NodeSet) (from-are : (l : ℕ) → mem from l ≡ leaves v l) (b : ℕ) (b-is : b ≡ second (mem from)) where
+      b-second : b ≡ second (leaves v)
+      b-second = b-is ∙ second-ext (mem from) (leaves v) from-are
+
+      few : n ≤ 128
+      few = omega (arith, is .nodes, is .shaped .few-nodes)
+
+      there : b < 128
+      there =
+          let found : least 128 (mem forks) < 128 = omega (arith, few) in
+          let in-forks : mem forks v ≡ true = subst (λ (z : ℕ). mem forks z ≡ true) (sym lowest) (least-holds 128 (mem forks) found) in
+          let h : second (leaves v) < 128 = ltb-true (second (leaves v)) 128 (sym (is .reduced .forks v within) ∙ sym (are v) ∙ in-forks) in
+          omega (arith, b-second)
+
+      pub second-there : n ≤ b → ⊥
+      second-there h = omega (arith, small v within b (leaves-in v within b (b-parts (leaves v) b b-second there .1)) .0)
+
+      pub chosen : (a : ℕ) → a ≡ least 128 (mem from) → Choice g v a b
+      chosen a i =
+          let same : least 128 (mem from) ≡ least 128 (leaves v) = least-ext 128 (mem from) (leaves v) (λ k _. from-are k) in
+          let e : a ≡ least 128 (leaves v) = i ∙ same in
+          let less : least 128 (leaves v) < b = lowest-less (leaves v) b b-second there in
+          let found : least 128 (leaves v) < 128 = omega (arith, there) in
+          record {
+            first = leaves-in v within a (subst (λ (z : ℕ). leaves v z ≡ true) (sym e) (least-holds 128 (leaves v) found));
+            second = leaves-in v within b (b-parts (leaves v) b b-second there .1);
+            lower = omega arith;
+            lowest-leaves = λ l k.
+                by-bool (eqb l a)
+                (λ (t : eqb l a ≡ true). inl (eqb-true l a t))
+                (λ (t : eqb l a ≡ false).
+                let up : b ≤ l = omega (arith, another v within l k (λ q. eqb-false l a t (q ∙ sym e)), b-second) in
+                ⊎-elim (λ (q : b ≡ l). inr (inl (sym q))) (λ (q : b < l). inr (inr q)) (eq-or-lt-of-le up));
+            lowest-root = λ w l m less-w k j. below-v w l m (omega arith) less-w k j;
+          }

@@ -1,0 +1,72 @@
+-- What the tables hold: a graph's reduced form, after Rule 2, as 2n + 1 sets in two lists of words.
+use Prim.Native.Nat.{ℕ, _+_, _<_}
+use mathlib.Core.Path.{_≡_}
+use mathlib.Core.List.{List}
+use mathlib.Core.Bool.{Bool, true, false, cond, not, _&&_, _||_}
+use mathlib.Core.Logic.{_↔_}
+use lib.Dec.{eqb, ltb}
+use lib.ListN.{length}
+use Rattle.base_finite.specs.Below.{least}
+use Rattle.base_nodeset.specs.Set.{mem}
+use Rattle.base_nodeset.specs.declared.NodeSet.{NodeSet}
+use Rattle.graph.specs.Graph.{Graph, root, leaf, Descent}
+use Rattle.graph.specs.Order.{Kept}
+use Rattle.theory_forest.proofs.Shape.{Shaped}
+use Rattle.theory_list.proofs.Redundancy.{Loopless}
+use Rattle.rows.specs.Rows.{inRow}
+
+pub record Ends (g : Graph) (n : ℕ) (leaves roots : NodeSet) : Type 0 where
+  pub nodes : n ≡ g .nodes
+  pub leaves-are : (v : ℕ) → mem leaves v ≡ leaf g v
+  pub roots-are : (v : ℕ) → mem roots v ≡ root g v
+
+pub record RootsAre (g : Graph) (n : ℕ) (roots : NodeSet) : Type 0 where
+  pub nodes : n ≡ g .nodes
+  pub are : (v : ℕ) → mem roots v ≡ root g v
+
+-- the lowest but one of the numbers with p, and 128 where there are no two
+abbrev pub second : (ℕ → Bool) → ℕ
+second p = least 128 (λ (k : ℕ). not (eqb k (least 128 p)) && p k)
+
+abbrev pub several : (ℕ → Bool) → Bool
+several p = ltb (second p) 128
+
+-- the set has the nodes that several of the leaves in the tables have edges to
+abbrev pub Forks : ℕ → List ℕ → List ℕ → NodeSet → Type 0
+Forks n low high s = (v : ℕ) → v < n → mem s v ≡ several (λ (l : ℕ). inRow low high (n + v) l)
+
+-- the tables have room for 128 nodes
+abbrev pub Wide : List ℕ → List ℕ → Type 0
+Wide low high = (length low ≡ 257) × (length high ≡ 257)
+
+-- In the first n sets the nodes under each node, in the next n the leaves whose edges to it stay, in the last the nodes that
+-- several of them have edges to. With a cycle in the graph what stays is of no use, and nothing is said of it.
+pub record Reduced (g : Graph) (n : ℕ) (low high : List ℕ) : Type 0 where
+  pub wide : Wide low high
+  pub under : (u v : ℕ) → u < n → (inRow low high u v ≡ true) ↔ Descent g u v
+  pub edges : Loopless g → (v l : ℕ) → v < n → (inRow low high (n + v) l ≡ true) ↔ Kept g l v
+  pub forks : (v : ℕ) → v < n → inRow low high (n + n) v ≡ several (λ (l : ℕ). inRow low high (n + v) l)
+
+pub record Given (g : Graph) (n : ℕ) (low high : List ℕ) : Type 0 where
+  pub shaped : Shaped g
+  pub loopless : Loopless g
+  pub nodes : n ≡ g .nodes
+  pub reduced : Reduced g n low high
+
+-- What the parts do to the tables.
+
+-- no edge stays, and what is under each node is as before
+pub record Blank (n : ℕ) (low high low′ high′ : List ℕ) : Type 0 where
+  pub wide : Wide low′ high′
+  pub same : (u v : ℕ) → u < n → inRow low′ high′ u v ≡ inRow low high u v
+  pub none : (v l : ℕ) → v < n → inRow low′ high′ (n + v) l ≡ false
+
+-- edges from the leaves `less` to the members of the set go, and edges from the leaves `more` to them come
+pub record Revised (n : ℕ) (set less more : NodeSet) (low high low′ high′ : List ℕ) : Type 0 where
+  pub wide : Wide low′ high′
+  pub same : (u v : ℕ) → u < n → inRow low′ high′ u v ≡ inRow low high u v
+  pub edges : (v l : ℕ) → v < n → inRow low′ high′ (n + v) l ≡ cond (mem set v) (inRow low high (n + v) l && not (mem less l) || mem more l) (inRow low high (n + v) l)
+
+-- v is a member where the set has several, and else is not
+abbrev pub Noted : NodeSet → ℕ → NodeSet → NodeSet → Type 0
+Noted forks v set r = (w : ℕ) → mem r w ≡ cond (eqb w v) (several (mem set)) (mem forks w)

@@ -1,0 +1,30 @@
+// The choice of Rule 3: the lowest root with two edges that stay, and of their leaves the two lowest.
+use crate::forks::second;
+use rows::set_at;
+ghost use Prim.Native.Nat.{_≤_};
+ghost use Rattle.graph.specs.Graph.{Graph};
+ghost use Rattle.solve_reduce.specs.Reduced.{Wide, Given};
+ghost use Rattle.solve_reduce.specs.Chosen.{Bounded, Chosen};
+
+pub enum Fork {
+    None,
+    At(usize, usize, usize),
+}
+
+// (v, a, b) of the choice. The test of b is for the bounds alone: a fork has its two leaves.
+pub fn choose(low: &[u64], high: &[u64], n: usize) -> Fork
+    requires { ⌜ Wide (now low) (now high) × (n ≤ 128) ⌝ }
+    ensures { λ r. ⌜ Bounded n r ⌝ }
+    ensures { λ r. ⌜ ((g : Graph) → Given g n (now (low .entry)) (now (high .entry)) → Chosen g r) ⌝ }
+{
+    let v = set_at(low, high, n + n).lowest();
+    if n <= v {
+        return Fork::None;
+    }
+    let from = set_at(low, high, n + v);
+    let b = second(from);
+    if n <= b {
+        return Fork::None;
+    }
+    Fork::At(v, from.lowest(), b)
+}

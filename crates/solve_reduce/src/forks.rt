@@ -1,0 +1,28 @@
+// Which sets have several members, and the roots that several leaves have edges to.
+use base_nodeset::NodeSet;
+ghost use mathlib.Core.Path.{_≡_};
+ghost use Prim.Native.Nat.{_<_};
+ghost use Rattle.base_nodeset.specs.Set.{mem};
+ghost use Rattle.solve_reduce.specs.Reduced.{second as secondOf, Noted};
+
+// The lowest member but one, and 128 where there are no two.
+pub fn second(set: NodeSet) -> usize
+    ensures { λ r. ⌜ r ≡ secondOf (mem set) ⌝ }
+{
+    let first = set.lowest();
+    if 128 <= first {
+        return 128;
+    }
+    set.without(first).lowest()
+}
+
+// v among the forks where its leaves are several, and else not.
+pub fn noted(forks: NodeSet, v: usize, leaves: NodeSet) -> NodeSet
+    requires { ⌜ v < 128 ⌝ }
+    ensures { λ r. ⌜ Noted forks v leaves r ⌝ }
+{
+    if second(leaves) < 128 {
+        return forks.with(v);
+    }
+    forks.without(v)
+}

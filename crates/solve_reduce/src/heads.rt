@@ -1,0 +1,31 @@
+// Rule 2: the roots that a leaf's edges go to, those that are redundant left out.
+use base_nodeset::NodeSet;
+use rows::row;
+ghost use Prim.Native.Nat.{_<_};
+ghost use Rattle.rows.specs.Rows.{Long};
+ghost use Rattle.solve_reduce.specs.Staying.{Tops, Heads};
+
+// The members of the set that are in no member's row. In closed rows a member that is in a row already read has nothing
+// new in its own, and is passed over.
+fn tops(low: &[u64], high: &[u64], set: NodeSet) -> NodeSet
+    requires { ⌜ Long (now low) (now high) ⌝ }
+    ensures { λ r. ⌜ Tops set (now (low .entry)) (now (high .entry)) r ⌝ }
+{
+    let mut top = set;
+    let mut left = set;
+    while !left.is_empty() {
+        let x = left.lowest();
+        let under = row(low, high, x);
+        top = top.difference(under);
+        left = left.without(x).difference(under);
+    }
+    top
+}
+
+// The roots that the edges of the leaf l go to.
+pub fn heads(low: &[u64], high: &[u64], roots: NodeSet, l: usize) -> NodeSet
+    requires { ⌜ Long (now low) (now high) × (l < 128) ⌝ }
+    ensures { λ r. ⌜ Heads roots (now (low .entry)) (now (high .entry)) l r ⌝ }
+{
+    tops(low, high, row(low, high, l).intersection(roots))
+}

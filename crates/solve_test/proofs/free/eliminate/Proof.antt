@@ -1,0 +1,79 @@
+-- What is left was made by taking free fragments out of the roots. A round that leaves as many was stuck.
+use mathlib.Core.Path.{_≡_, sym, _∙_}
+use native.Mathlib.Omega.{arith}
+use borrow.Author.Needs.{needs}
+use Rattle.base_finite.proofs.Laws.{any-found}
+use Rattle.base_finite.specs.Below.{count}
+use Rattle.base_nodeset.specs.Set.{mem}
+use Rattle.base_nodeset.proofs.Members.{some-member, no-member}
+use Rattle.rows.specs.Rows.{inRow}
+use Rattle.solve_test.specs.Free.{Taking, none-taken}
+use Rattle.solve_test.proofs.Rounds.{taking-trans}
+use Rattle.solve_test.proofs.free.eliminate.Statement.{statement}
+use Rattle.solve_test.proofs.free.eliminate.Tie as tie
+
+abbrev Inv-loop : tie.InvT-loop
+Inv-loop low high near-low near-high leaf-low leaf-high rem₀ rem = Taking (inRow low high) (inRow near-low near-high) (inRow leaf-low leaf-high) rem₀ rem
+
+abbrev μ-loop : tie.MeasureT-loop
+μ-loop low high near-low near-high leaf-low leaf-high rem₀ rem = count 128 (mem rem)
+
+loop-holds : tie.Need-loop-holds Inv-loop μ-loop
+loop-holds c = none-taken
+
+is-empty-requires : tie.Need-is-empty-requires Inv-loop μ-loop
+is-empty-requires c κs = search needs
+
+round-requires : tie.Need-round-requires Inv-loop μ-loop
+round-requires c κs =
+    let s = c .before .before .before .before .before .before .before .before .before in
+    s .pre
+
+count-requires : tie.Need-count-requires Inv-loop μ-loop
+count-requires c κs = search needs
+
+count-requires-2 : tie.Need-count-requires-2 Inv-loop μ-loop
+count-requires-2 c κs = search needs
+
+returns : tie.Need-returns Inv-loop μ-loop
+returns c =
+    let r = c .before .before .before in
+    let e = r .before .before in
+    let l = e .before .loop in
+    let x = any-found 128 (mem (l .rem)) (some-member (l .rem) _ (e .is-empty .ensures) (r .before .if1 .taken)) in
+    let same : count 128 (mem (r .round .result)) ≡ count 128 (mem (l .rem)) = sym (c .before .before .count .ensures) ∙ c .if2 .taken ∙ c .before .count2 .ensures in
+    (l .rem, l .inv, (x .0, x .2), r .round .ensures .or-stuck same)
+
+loop-less : tie.Need-loop-less Inv-loop μ-loop
+loop-less c =
+    let r = c .before .before .before in
+    let e = r .before .before in
+    omega (arith, r .round .ensures .fewer, c .before .before .count .ensures, c .before .count2 .ensures, c .if2 .left)
+
+loop-again : tie.Need-loop-again Inv-loop μ-loop
+loop-again c =
+    let r = c .before .before .before in
+    let e = r .before .before in
+    taking-trans (e .before .loop .inv) (r .round .ensures .taking)
+
+returns-2 : tie.Need-returns-2 Inv-loop μ-loop
+returns-2 c =
+    let e = c .before in
+    let l = e .before .loop in
+    (l .rem, l .inv, no-member (l .rem) _ (e .is-empty .ensures) (c .if1 .left))
+
+pub eliminate-spec : {M : Type 1} → statement M
+eliminate-spec =
+    tie.close
+    (tie.spec
+    Inv-loop
+    μ-loop
+    loop-holds
+    is-empty-requires
+    round-requires
+    count-requires
+    count-requires-2
+    returns
+    loop-less
+    loop-again
+    returns-2)

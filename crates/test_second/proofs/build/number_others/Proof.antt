@@ -1,0 +1,60 @@
+use Prim.Native.Nat.{_-_}
+use mathlib.Core.Path.{_≡_}
+use lib.ListN.{length}
+use borrow.Author.Needs.{needs}
+use Rattle.test_second.proofs.build.number_others.Statement.{statement}
+use Rattle.test_second.proofs.build.number_others.Tie as tie
+use Rattle.test_second.proofs.build.number_others.Reads as reads
+use Rattle.test_second.proofs.build.number_others.Lts as lts
+use Rattle.test_second.proofs.build.top.Reads as top-reads
+use Rattle.test_second.proofs.table.byte.Reads as byte-reads
+use Rattle.test_second.proofs.table.put.Reads as put-reads
+
+abbrev Inv-loop : tie.InvT-loop
+Inv-loop parent n nodes₀ v₀ nodes v = length nodes ≡ length nodes₀
+
+abbrev μ-loop : tie.MeasureT-loop
+μ-loop parent n nodes₀ v₀ nodes v = n - v
+
+loop-holds : tie.Need-loop-holds Inv-loop μ-loop
+loop-holds c = search needs
+
+top-requires : tie.Need-top-requires Inv-loop μ-loop
+top-requires c κs = search needs
+
+byte-requires : tie.Need-byte-requires Inv-loop μ-loop
+byte-requires c κs = search needs
+
+put-requires : tie.Need-put-requires Inv-loop μ-loop
+put-requires c κs = search needs
+
+add-v : tie.Need-add-v Inv-loop μ-loop
+add-v c = search needs
+
+loop-less : tie.Need-loop-less Inv-loop μ-loop
+loop-less c = search needs
+
+loop-again : tie.Need-loop-again Inv-loop μ-loop
+loop-again c = search needs
+
+same-length : tie.Need-same-length Inv-loop μ-loop
+same-length c = search needs
+
+returns : tie.Need-returns Inv-loop μ-loop
+returns c = search needs
+
+pub number-others-spec : {M : Type 1} → statement M
+number-others-spec =
+    tie.close
+    (tie.spec
+    Inv-loop
+    μ-loop
+    loop-holds
+    top-requires
+    byte-requires
+    put-requires
+    add-v
+    loop-less
+    loop-again
+    same-length
+    returns)

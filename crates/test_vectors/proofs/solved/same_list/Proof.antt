@@ -1,0 +1,69 @@
+use Prim.Native.Nat.{_-_}
+use mathlib.Core.Path.{_≡_}
+use lib.ListN.{length}
+use borrow.Author.Needs.{needs}
+use Rattle.test_vectors.proofs.solved.same_list.Statement.{statement}
+use Rattle.test_vectors.proofs.solved.same_list.Tie as tie
+use Rattle.test_vectors.proofs.solved.same_list.Reads as reads
+use Rattle.test_vectors.proofs.solved.same_list.Lts as lts
+use Rattle.counter.proofs.Place.start.Reads as start-reads
+use Rattle.test_vectors.proofs.answers.plus.Reads as plus-reads
+use Rattle.test_vectors.proofs.solved.at_end.Reads as at-end-reads
+use Rattle.test_vectors.proofs.solved.step.Reads as step-reads
+
+abbrev Inv-loop : tie.InvT-loop
+Inv-loop sheet n table rows seen₀ wrong₀ place₀ -row₀ seen wrong place -row = length seen ≡ 2048
+
+abbrev μ-loop : tie.MeasureT-loop
+μ-loop sheet n table rows seen₀ wrong₀ place₀ -row₀ seen wrong place -row = rows - -row
+
+start-requires : tie.Need-start-requires Inv-loop μ-loop
+start-requires c κs = search needs
+
+loop-holds : tie.Need-loop-holds Inv-loop μ-loop
+loop-holds c = search needs
+
+slice-aggregate-step : tie.Need-slice-aggregate-step Inv-loop μ-loop
+slice-aggregate-step c = search needs
+
+step-requires : tie.Need-step-requires Inv-loop μ-loop
+step-requires c κs = search needs
+
+plus-requires : tie.Need-plus-requires Inv-loop μ-loop
+plus-requires c κs = search needs
+
+add--row : tie.Need-add--row Inv-loop μ-loop
+add--row c = search needs
+
+loop-less : tie.Need-loop-less Inv-loop μ-loop
+loop-less c = search needs
+
+loop-again : tie.Need-loop-again Inv-loop μ-loop
+loop-again c = search needs
+
+at-end-requires : tie.Need-at-end-requires Inv-loop μ-loop
+at-end-requires c κs = search needs
+
+plus-requires-2 : tie.Need-plus-requires-2 Inv-loop μ-loop
+plus-requires-2 c κs = search needs
+
+returns : tie.Need-returns Inv-loop μ-loop
+returns c = search needs
+
+pub same-list-spec : {M : Type 1} → statement M
+same-list-spec =
+    tie.close
+    (tie.spec
+    Inv-loop
+    μ-loop
+    start-requires
+    loop-holds
+    slice-aggregate-step
+    step-requires
+    plus-requires
+    add--row
+    loop-less
+    loop-again
+    at-end-requires
+    plus-requires-2
+    returns)

@@ -1,0 +1,105 @@
+// What is printed: lines for a sheet with a name, and the sums.
+use crate::Sums;
+use crate::answers::MARK;
+use crate::answers::length;
+use crate::answers::plus;
+use crate::unpack::nodes_of;
+use crate::unpack::part;
+use counter::Place;
+use counter::configuration;
+use counter::drawing;
+use libc::STDOUT_FILENO;
+use test_second::table::byte;
+
+fn text(words: &[u8]) {
+    io::write_all(STDOUT_FILENO, words);
+}
+
+fn decimal(number: usize) {
+    io::print_decimal(STDOUT_FILENO, number as u64);
+}
+
+// root:leaf for each hung root.
+fn placing_line(placing: &[u8], n: usize) {
+    for v in 0..n {
+        let leaf = byte(placing, v);
+        if leaf == 255 {
+            continue;
+        }
+        text(b" ");
+        decimal(v);
+        text(b":");
+        decimal(leaf);
+    }
+    text(b"\n");
+}
+
+fn reading_lines(sheet: &[u8], readings: usize) {
+    let mut place = Place::start();
+    for number in 0..readings {
+        let mut out = [MARK; 256];
+        let next = place.next(sheet, &mut out);
+        place = next.place;
+        decimal(plus(number, 1));
+        placing_line(&out, nodes_of(sheet));
+    }
+}
+
+fn drawing_line(sheet: &[u8]) {
+    let mut page = [MARK; 1024];
+    let answer = drawing(sheet, 1, &mut page);
+    text(b"drawing ");
+    text(part(&page, length(answer)));
+    text(b"\n");
+}
+
+fn configuration_line(sheet: &[u8]) {
+    let mut out = [MARK; 256];
+    configuration(sheet, &mut out);
+    text(b"configuration");
+    placing_line(&out, nodes_of(sheet));
+}
+
+// A short list's readings, configuration and first drawing besides.
+fn solved_lines(sheet: &[u8], readings: usize) {
+    text(b": readings ");
+    decimal(readings);
+    text(b"\n");
+    if readings <= 2 {
+        reading_lines(sheet, readings);
+        configuration_line(sheet);
+        drawing_line(sheet);
+    }
+}
+
+fn refused_line(number: u8) {
+    text(b": refused ");
+    decimal(number as usize);
+    text(b"\n");
+}
+
+pub fn case(name: &[u8], number: u8, sheet: &[u8], readings: usize) {
+    text(name);
+    if number != 0 {
+        refused_line(number);
+        return;
+    }
+    if readings == 0 {
+        refused_line(9);
+        return;
+    }
+    solved_lines(sheet, readings);
+}
+
+fn sum(label: &[u8], number: usize) {
+    text(label);
+    decimal(number);
+}
+
+pub fn summary(sums: Sums) {
+    sum(b"sheets ", sums.sheets);
+    sum(b", refused ", sums.refused);
+    sum(b", readings ", sums.readings);
+    sum(b", mismatches ", sums.wrong);
+    text(b"\n");
+}

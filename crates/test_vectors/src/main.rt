@@ -1,0 +1,112 @@
+// Takes the sheets of its input through the public calls, each against the second solver: the cases of document 01, the chains
+// of Section 9 of document 000, and generated ones. A mismatch is an answer that is not what the documents and the second
+// solver say.
+mod answers;
+mod lines;
+mod refused;
+mod solved;
+mod trial;
+mod unpack;
+
+use answers::fails;
+use answers::is_cycle;
+use answers::plus;
+use lines::case;
+use lines::summary;
+use refused::malformed;
+use test_second::table::byte;
+use trial::Found;
+use trial::trial;
+
+pub struct Sums {
+    pub sheets: usize,
+    pub refused: usize,
+    pub readings: usize,
+    pub wrong: usize,
+}
+
+// Where the field at a place ends: it has its length, two bytes, before it.
+fn end_of(input: &[u8], at: usize) -> usize {
+    let length = 256 * byte(input, at) + byte(input, plus(at, 1));
+    plus(plus(at, 2), length)
+}
+
+// The field at a place; nothing where the input has no room for it.
+fn field(input: &[u8], at: usize) -> &[u8] {
+    let start = plus(at, 2);
+    let end = end_of(input, at);
+    if input.len() < end {
+        return &input[0..0];
+    }
+    if end < start {
+        return &input[0..0];
+    }
+    &input[start..end]
+}
+
+// A sheet that is refused with the number, 1 to 8, or one that is well-formed, and the number 0. The cycle, if there is one, is
+// the sheet's.
+fn tried(number: u8, cycle: &[u8], sheet: &[u8]) -> Found {
+    if number != 0 {
+        let wrong = malformed(sheet, number);
+        return Found { readings: 0, wrong };
+    }
+    let found = trial(sheet);
+    if cycle.len() == 0 {
+        return found;
+    }
+    let wrong = plus(found.wrong, fails(is_cycle(sheet, cycle)));
+    Found {
+        readings: found.readings,
+        wrong,
+    }
+}
+
+// A sheet with a name gets lines of its own.
+fn one_sheet(name: &[u8], number: u8, cycle: &[u8], sheet: &[u8], sums: Sums) -> Sums {
+    let found = tried(number, cycle, sheet);
+    if name.len() != 0 {
+        case(name, number, sheet, found.readings);
+    }
+    Sums {
+        sheets: plus(sums.sheets, 1),
+        refused: plus(sums.refused, fails(found.readings != 0)),
+        readings: plus(sums.readings, found.readings),
+        wrong: plus(sums.wrong, found.wrong),
+    }
+}
+
+// Four fields a sheet: name, number, cycle, and the sheet itself.
+fn all_sheets(input: &[u8]) -> Sums {
+    let mut sums = Sums {
+        sheets: 0,
+        refused: 0,
+        readings: 0,
+        wrong: 0,
+    };
+    let mut at = 0;
+    for _sheet in 0..input.len() {
+        if input.len() <= at {
+            return sums;
+        }
+        let second = end_of(input, at);
+        let third = end_of(input, second);
+        let fourth = end_of(input, third);
+        let number = byte(field(input, second), 0) as u8;
+        sums = one_sheet(
+            field(input, at),
+            number,
+            field(input, third),
+            field(input, fourth),
+            sums,
+        );
+        at = end_of(input, fourth);
+    }
+    sums
+}
+
+fn main() {
+    let mut input = io::large_buffer();
+    let got = io::read_full(0, &mut input);
+    summary(all_sheets(&input[..got]));
+}

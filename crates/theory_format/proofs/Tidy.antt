@@ -1,0 +1,244 @@
+-- The tidy sheet. It spells the commands of the graph's edges in tidy order, so it is accepted, with the same nodes and
+-- edges; graphs that agree have one tidy sheet, and graphs with one tidy sheet agree. So the tidy sheet of the tidy
+-- sheet is itself.
+use Prim.Native.Nat.{ℕ, zero, suc, _+_, _*_}
+use mathlib.Core.Path.{_≡_, refl, sym, ap, subst, _∙_}
+use mathlib.Core.List.{List, [], _∷_, _++_, map, reverse, reverseAux, append-assoc}
+use mathlib.Core.Bool.{Bool, true, false, cond}
+use mathlib.Core.Logic.{_↔_}
+use native.Mathlib.Omega.{arith}
+use lib.ListN.{length, length-append, length-reverse}
+use Rattle.base_finite.specs.Below.{count, spread}
+use Rattle.base_finite.proofs.Laws.{by-bool, spread-ext, count-none, count-one-more, not-holding, test-ext}
+use Rattle.graph.specs.Graph.{Edge, Graph, among, entered, distinct, single, parent, WellFormed, Agree}
+use Rattle.graph.specs.Sheet.{accepted, outcome, EdgeCommand, tree-edge, dominance-edge, spelt, written, sheet, spells, tidyTree, tidyDominance, tidy}
+use Rattle.theory_format.proofs.Edges.{Within, among-unentered, parent-among, parent-only, one-parent, sum, sum-ext, same-length}
+use Rattle.theory_format.proofs.Whole.{accepted-same}
+use Rattle.theory_format.proofs.Spelling.{accepted-well-formed, spells-accepted, dominance-within}
+use Rattle.theory_format.proofs.Tables.{among-reverse, distinct-reverse, single-of-distinct, cell, row, table, among-table, table-among, distinct-table, length-table}
+use Rattle.theory_format.proofs.Agreement.{agree-sym, agree-trans, well-formed-agree}
+
+-- the edges in tidy order
+
+unfoldable pub treeEdges : Graph → List Edge
+treeEdges g = table (g .nodes) (λ c p. among (g .tree) p c) (λ c p. (p, c))
+
+unfoldable pub dominanceEdges : Graph → List Edge
+dominanceEdges g = table (g .nodes) (among (g .dominance)) (λ l r. (l, r))
+
+pub tree-edges-among : (g : Graph) → Within (g .nodes) (g .tree) → (p c : ℕ) → among (treeEdges g) p c ≡ among (g .tree) p c
+unfolding treeEdges
+tree-edges-among g w p c =
+    let n : ℕ = g .nodes in
+    let t : List Edge = g .tree in
+    test-ext (among (table n (λ c p. among t p c) (λ c p. (p, c))) p c) (among t p c)
+    (λ h.
+    let r = among-table n (λ c p. among t p c) (λ c p. (p, c)) p c h in
+    rw (r .5, r .6) at (r .4))
+    (λ h.
+    let b = w p c h in
+    table-among n (λ c p. among t p c) (λ c p. (p, c)) c p (b .1) (b .0) h)
+
+pub dominance-edges-among : (g : Graph) → Within (g .nodes) (g .dominance) → (l r : ℕ) → among (dominanceEdges g) l r ≡ among (g .dominance) l r
+unfolding dominanceEdges
+dominance-edges-among g w l r =
+    let n : ℕ = g .nodes in
+    let d : List Edge = g .dominance in
+    test-ext (among (table n (among d) (λ l r. (l, r))) l r) (among d l r)
+    (λ h.
+    let s = among-table n (among d) (λ l r. (l, r)) l r h in
+    rw (s .5, s .6) at (s .4))
+    (λ h.
+    let b = w l r h in
+    table-among n (among d) (λ l r. (l, r)) l r (b .0) (b .1) h)
+
+tree-edges-distinct : (g : Graph) → distinct (treeEdges g) ≡ true
+unfolding treeEdges
+tree-edges-distinct g = distinct-table (g .nodes) (λ c p. among (g .tree) p c) (λ c p. (p, c)) (λ a b c d e f. (f, e))
+
+dominance-edges-distinct : (g : Graph) → distinct (dominanceEdges g) ≡ true
+unfolding dominanceEdges
+dominance-edges-distinct g = distinct-table (g .nodes) (among (g .dominance)) (λ l r. (l, r)) (λ a b c d e f. (e, f))
+
+-- the bytes
+
+-- the edges' bytes, each edge after a byte b
+unfoldable pub triples : ℕ → List Edge → List ℕ
+triples b [] = []
+triples b (e ∷ es) = b ∷ e .0 ∷ e .1 ∷ triples b es
+
+triples-append : (b : ℕ) (es fs : List Edge) → triples b (es ++ fs) ≡ triples b es ++ triples b fs
+unfolding triples
+triples-append b [] fs = refl
+triples-append b (e ∷ es) fs = rw (triples-append b es fs)
+
+triples-spread : (b n : ℕ) (f : ℕ → List Edge) → triples b (spread n f) ≡ spread n (λ k. triples b (f k))
+unfolding triples spread
+triples-spread b zero f = refl
+triples-spread b (suc n) f = rw (triples-append, triples-spread b n f)
+
+triples-cell : (b : ℕ) (t : Bool) (e : Edge) → triples b (cell t e) ≡ cond t (b ∷ e .0 ∷ e .1 ∷ []) []
+unfolding triples cell
+triples-cell b true e = refl
+triples-cell b false e = refl
+
+triples-table : (b n : ℕ) (p : ℕ → ℕ → Bool) (f : ℕ → ℕ → Edge) → triples b (table n p f) ≡ spread n (λ i. spread n (λ j. cond (p i j) (b ∷ f i j .0 ∷ f i j .1 ∷ []) []))
+unfolding table row
+triples-table b n p f =
+    triples-spread b n (λ i. row n (p i) (f i))
+    ∙ spread-ext n (λ i. triples b (row n (p i) (f i))) (λ i. spread n (λ j. cond (p i j) (b ∷ f i j .0 ∷ f i j .1 ∷ []) []))
+    (λ i _. triples-spread b n (λ j. cell (p i j) (f i j))
+    ∙ spread-ext n (λ j. triples b (cell (p i j) (f i j))) (λ j. cond (p i j) (b ∷ f i j .0 ∷ f i j .1 ∷ []) []) (λ j _. triples-cell b (p i j) (f i j)))
+
+length-triples : (b : ℕ) (es : List Edge) → length (triples b es) ≡ 3 * length es
+unfolding triples
+length-triples b [] = refl
+length-triples b (e ∷ es) = omega (arith, length-triples b es)
+
+tidy-tree : (g : Graph) → tidyTree g ≡ triples 2 (treeEdges g)
+unfolding tidyTree treeEdges
+tidy-tree g = sym (triples-table 2 (g .nodes) (λ c p. among (g .tree) p c) (λ c p. (p, c)))
+
+tidy-dominance : (g : Graph) → tidyDominance g ≡ triples 3 (dominanceEdges g)
+unfolding tidyDominance dominanceEdges
+tidy-dominance g = sym (triples-table 3 (g .nodes) (among (g .dominance)) (λ l r. (l, r)))
+
+-- the commands
+
+abbrev toTree : Edge → EdgeCommand
+toTree e = tree-edge (e .0) (e .1)
+
+abbrev toDominance : Edge → EdgeCommand
+toDominance e = dominance-edge (e .0) (e .1)
+
+unfoldable pub tidyCommands : Graph → List EdgeCommand
+tidyCommands g = map toTree (treeEdges g) ++ map toDominance (dominanceEdges g)
+
+spelt-trees : (es : List Edge) (cs : List EdgeCommand) → spelt (map toTree es ++ cs) ≡ triples 2 es ++ spelt cs
+unfolding spelt triples
+spelt-trees [] cs = refl
+spelt-trees (e ∷ es) cs = rw (spelt-trees es cs)
+
+spelt-dominances : (es : List Edge) → spelt (map toDominance es) ≡ triples 3 es ++ (0 ∷ [])
+unfolding spelt triples
+spelt-dominances [] = refl
+spelt-dominances (e ∷ es) = rw (spelt-dominances es)
+
+pub tidy-spells : (g : Graph) → tidy g ≡ sheet (g .nodes) (tidyCommands g)
+unfolding tidy sheet tidyCommands
+tidy-spells g =
+    let joined : triples 2 (treeEdges g) ++ triples 3 (dominanceEdges g) ++ (0 ∷ []) ≡ triples 2 (treeEdges g) ++ (triples 3 (dominanceEdges g) ++ (0 ∷ [])) = append-assoc (triples 2 (treeEdges g)) (triples 3 (dominanceEdges g)) (0 ∷ []) in
+    rw (tidy-tree, tidy-dominance, spelt-trees, spelt-dominances) (ap (λ (l : List ℕ). 1 ∷ g .nodes ∷ l) joined)
+
+written-trees : (n : ℕ) (t d : List Edge) (es : List Edge) (cs : List EdgeCommand) → written n t d (map toTree es ++ cs) ≡ written n (reverseAux es t) d cs
+unfolding written
+written-trees n t d [] cs = refl
+written-trees n t d (e ∷ es) cs = written-trees n (e ∷ t) d es cs
+
+written-dominances : (n : ℕ) (t d : List Edge) (es : List Edge) → written n t d (map toDominance es) ≡ record { nodes = n; tree = t; dominance = reverseAux es d }
+unfolding written
+written-dominances n t d [] = refl
+written-dominances n t d (e ∷ es) = written-dominances n t (e ∷ d) es
+
+-- the graph that the tidy sheet writes: its edges, the latest first
+unfoldable pub tidied : Graph → Graph
+tidied g = record { nodes = g .nodes; tree = reverse (treeEdges g); dominance = reverse (dominanceEdges g) }
+
+spells-tidied : (g : Graph) → spells (g .nodes) (tidyCommands g) ≡ tidied g
+unfolding spells tidyCommands tidied
+spells-tidied g =
+    written-trees (g .nodes) [] [] (treeEdges g) (map toDominance (dominanceEdges g))
+    ∙ written-dominances (g .nodes) (reverse (treeEdges g)) [] (dominanceEdges g)
+
+pub tidied-agrees : (g : Graph) → WellFormed g → Agree g (tidied g)
+unfolding tidied
+tidied-agrees g w =
+    record {
+      same-nodes = refl;
+      same-tree = λ p c. sym (among-reverse (treeEdges g) p c ∙ tree-edges-among g (w .tree-within) p c);
+      same-dominance = λ l r. sym (among-reverse (dominanceEdges g) l r ∙ dominance-edges-among g (dominance-within g w) l r);
+    }
+
+dominance-edges-length : (g : Graph) → WellFormed g → length (dominanceEdges g) ≡ length (g .dominance)
+dominance-edges-length g w =
+    let n : ℕ = g .nodes in
+    let same : (l r : ℕ) → among (dominanceEdges g) l r ≡ among (g .dominance) l r = dominance-edges-among g (dominance-within g w) in
+    same-length n (dominanceEdges g) (g .dominance) (dominance-edges-distinct g) (w .all-different) (λ l r h. dominance-within g w l r (sym (same l r) ∙ h)) (dominance-within g w) same
+
+pub tidied-well-formed : (g : Graph) → WellFormed g → WellFormed (tidied g)
+unfolding tidied
+tidied-well-formed g w =
+    let k : Agree g (tidied g) = tidied-agrees g w in
+    let different : distinct (reverse (treeEdges g)) ≡ true = distinct-reverse (treeEdges g) (tree-edges-distinct g) in
+    well-formed-agree g (tidied g) k w
+    (single-of-distinct (reverse (treeEdges g)) different (λ p q c h i. one-parent (g .tree) p q c (w .one-parent) (k .same-tree p c ∙ h) (k .same-tree q c ∙ i)))
+    (omega (arith, length-reverse (dominanceEdges g), dominance-edges-length g w, w .few-edges))
+    (distinct-reverse (dominanceEdges g) (dominance-edges-distinct g))
+
+pub tidy-accepted : (g : Graph) → WellFormed g → (h : Graph) × (outcome (tidy g) ≡ accepted h) × Agree g h
+tidy-accepted g w =
+    let same : spells (g .nodes) (tidyCommands g) ≡ tidied g = spells-tidied g in
+    let reads : outcome (sheet (g .nodes) (tidyCommands g)) ≡ accepted (spells (g .nodes) (tidyCommands g)) = spells-accepted (g .nodes) (tidyCommands g) (subst WellFormed (sym same) (tidied-well-formed g w)) in
+    (tidied g, ap outcome (tidy-spells g) ∙ reads ∙ ap accepted same, tidied-agrees g w)
+
+spread-same : (n m : ℕ) (p q : ℕ → ℕ → Bool) (f : ℕ → ℕ → List ℕ) → n ≡ m → ((i j : ℕ) → p i j ≡ q i j) → spread n (λ i. spread n (λ j. cond (p i j) (f i j) [])) ≡ spread m (λ i. spread m (λ j. cond (q i j) (f i j) []))
+spread-same n m p q f e same =
+    spread-ext n (λ i. spread n (λ j. cond (p i j) (f i j) [])) (λ i. spread n (λ j. cond (q i j) (f i j) []))
+    (λ i _. spread-ext n (λ j. cond (p i j) (f i j) []) (λ j. cond (q i j) (f i j) []) (λ j _. rw (same i j)))
+    ∙ ap (λ (k : ℕ). spread k (λ i. spread k (λ j. cond (q i j) (f i j) []))) e
+
+pub tidy-same : (g h : Graph) → Agree g h → tidy g ≡ tidy h
+unfolding tidy tidyTree tidyDominance
+tidy-same g h k =
+    let trees : tidyTree g ≡ tidyTree h = spread-same (g .nodes) (h .nodes) (λ c p. among (g .tree) p c) (λ c p. among (h .tree) p c) (λ c p. 2 ∷ p ∷ c ∷ []) (k .same-nodes) (λ c p. k .same-tree p c) in
+    let dominances : tidyDominance g ≡ tidyDominance h = spread-same (g .nodes) (h .nodes) (among (g .dominance)) (among (h .dominance)) (λ l r. 3 ∷ l ∷ r ∷ []) (k .same-nodes) (k .same-dominance) in
+    cc
+
+pub tidy-twice : (bs : List ℕ) (g h : Graph) → outcome bs ≡ accepted g → outcome (tidy g) ≡ accepted h → tidy h ≡ tidy g
+tidy-twice bs g h e f =
+    let r = tidy-accepted g (accepted-well-formed bs g e) in
+    let same : h ≡ r .0 = accepted-same h (r .0) (sym f ∙ r .1) in
+    ap tidy same ∙ sym (tidy-same g (r .0) (r .2))
+
+pub one-tidy-form : (bs cs : List ℕ) (g h : Graph) → outcome bs ≡ accepted g → outcome cs ≡ accepted h → (tidy g ≡ tidy h) ↔ Agree g h
+one-tidy-form bs cs g h e f =
+    let r = tidy-accepted g (accepted-well-formed bs g e) in
+    let s = tidy-accepted h (accepted-well-formed cs h f) in (
+      λ q.
+          let same : r .0 ≡ s .0 = accepted-same (r .0) (s .0) (sym (r .1) ∙ ap outcome q ∙ s .1) in
+          agree-trans g (s .0) h (subst (Agree g) same (r .2)) (agree-sym h (s .0) (s .2)),
+      tidy-same g h,
+    )
+
+-- the length
+
+column-count : (n : ℕ) (t : List Edge) (c : ℕ) → Within n t → single t ≡ true → count n (λ p. among t p c) ≡ cond (entered t c) 1 0
+column-count n t c w s =
+    by-bool (entered t c)
+    (λ (e : entered t c ≡ true).
+    let up : among t (parent t c) c ≡ true = parent-among t c e in
+    let one : count n (λ p. among t p c) ≡ count n (λ _. false) + 1 = count-one-more n (λ _. false) (λ p. among t p c) (parent t c) (w (parent t c) c up .0) refl up (λ j apart. sym (not-holding (among t j c) (λ h. apart (parent-only t j c s h)))) in
+    let others : count n (λ _. false) ≡ 0 = count-none n (λ _. false) (λ k _. refl) in
+    rw e (omega arith))
+    (λ (e : entered t c ≡ false). rw e (count-none n (λ p. among t p c) (λ p _. among-unentered t p c e)))
+
+sum-count : (n : ℕ) (p : ℕ → Bool) → sum n (λ k. cond (p k) 1 0) ≡ count n p
+unfolding sum count
+sum-count zero p = refl
+sum-count (suc n) p = rw (sum-count n p)
+
+tree-edges-length : (g : Graph) → WellFormed g → length (treeEdges g) ≡ count (g .nodes) (entered (g .tree))
+unfolding treeEdges
+tree-edges-length g w =
+    let n : ℕ = g .nodes in
+    let t : List Edge = g .tree in
+    length-table n (λ c p. among t p c) (λ c p. (p, c))
+    ∙ sum-ext n (λ c. count n (λ p. among t p c)) (λ c. cond (entered t c) 1 0) (λ c _. column-count n t c (w .tree-within) (w .one-parent))
+    ∙ sum-count n (entered t)
+
+pub tidy-length : (g : Graph) → WellFormed g → length (tidy g) ≡ 3 + 3 * (count (g .nodes) (entered (g .tree))) + 3 * length (g .dominance)
+unfolding tidy
+tidy-length g w =
+    let trees : length (tidyTree g) ≡ 3 * length (treeEdges g) = ap length (tidy-tree g) ∙ length-triples 2 (treeEdges g) in
+    let dominances : length (tidyDominance g) ≡ 3 * length (dominanceEdges g) = ap length (tidy-dominance g) ∙ length-triples 3 (dominanceEdges g) in
+    omega (arith, length-append (tidyTree g ++ tidyDominance g) (0 ∷ []), length-append (tidyTree g) (tidyDominance g), tree-edges-length g w, dominance-edges-length g w)

@@ -1,0 +1,99 @@
+-- The tests after the last command: a sheet whose commands were all taken passes them exactly when its graph is
+-- well-formed, and what is then accepted is that graph. `Taken` says what the tests within the commands have left:
+-- it is what holds of n, the tree edges and the dominance edges at any point of the sheet.
+use Prim.Native.Nat.{ℕ, _≤_, _<_}
+use mathlib.Core.Path.{_≡_, refl, sym, _∙_}
+use mathlib.Core.List.{List}
+use mathlib.Core.Bool.{Bool, true, false, cond, not, _&&_, _||_, true≢false}
+use mathlib.Core.Logic.{_↔_}
+use native.Mathlib.Omega.{arith}
+use lib.ListN.{length}
+use borrow.Author.Tests.{not-false}
+use Rattle.base_finite.specs.Below.{any}
+use Rattle.base_finite.proofs.Laws.{by-bool, and-both, any-none, any-false, not-holding}
+use Rattle.graph.specs.Graph.{Edge, Graph, among, entered, left, distinct, single, root, leaf, DominanceEdge, WellFormed}
+use Rattle.graph.specs.Sheet.{Outcome, refused, accepted, cyclic, bare, astray, whole}
+use Rattle.graph.specs.declared.Refusal.{Refusal}
+use Rattle.graph.specs.declared.Refusal.the-variants.{Tree, Bare, Ends}
+use Rattle.theory_format.proofs.Edges.{Within}
+use Rattle.theory_format.proofs.Cyclic.{cycle-of-cyclic, cyclic-of-cycle}
+
+pub record Taken (n : ℕ) (t d : List Edge) : Type 0 where
+  pub some-nodes : 2 ≤ n
+  pub few-nodes : n ≤ 128
+  pub tree-within : Within n t
+  pub one-parent : single t ≡ true
+  pub dominance-within : Within n d
+  pub few-edges : length d ≤ 255
+  pub all-different : distinct d ≡ true
+
+pub not-refused : (x : Refusal) (g : Graph) → refused x ≡ accepted g → ⊥
+not-refused x g e = let z : _≡_ {A = ℕ} 0 1 = cc in omega arith
+
+pub accepted-same : (g h : Graph) → accepted g ≡ accepted h → g ≡ h
+accepted-same g h e = cc
+
+-- a test that did not refuse failed
+pub passed : (b : Bool) (x : Refusal) (o : Outcome) (g : Graph) → cond b (refused x) o ≡ accepted g → (b ≡ false) × (o ≡ accepted g)
+passed true x o g e = absurd (not-refused x g e)
+passed false x o g e = (refl, e)
+
+pub whole-passed : (g h : Graph) → whole g ≡ accepted h → (cyclic g ≡ false) × (bare g ≡ false) × (astray g ≡ false) × (g ≡ h)
+unfolding whole
+whole-passed g h e =
+    let a = passed (cyclic g) Tree (cond (bare g) (refused Bare) (cond (astray g) (refused Ends) (accepted g))) h e in
+    let b = passed (bare g) Bare (cond (astray g) (refused Ends) (accepted g)) h (a .1) in
+    let c = passed (astray g) Ends (accepted g) h (b .1) in
+    (a .0, b .0, c .0, accepted-same g h (c .1))
+
+pub whole-same : (g h : Graph) → whole g ≡ accepted h → h ≡ g
+whole-same g h e = sym (whole-passed g h e .3)
+
+on-tree-edge-of : (g : Graph) → bare g ≡ false → (v : ℕ) → v < g .nodes → (entered (g .tree) v || left (g .tree) v) ≡ true
+unfolding bare
+on-tree-edge-of g e v l = not-false (entered (g .tree) v || left (g .tree) v) (any-false (g .nodes) (λ v. not (entered (g .tree) v || left (g .tree) v)) e v l)
+
+not-bare : (g : Graph) → ((v : ℕ) → v < g .nodes → (entered (g .tree) v || left (g .tree) v) ≡ true) → bare g ≡ false
+unfolding bare
+not-bare g h = any-none (g .nodes) (λ v. not (entered (g .tree) v || left (g .tree) v)) (λ v l. rw (h v l))
+
+leaf-to-root-of : (g : Graph) → Within (g .nodes) (g .dominance) → astray g ≡ false → (l r : ℕ) → DominanceEdge g l r → (leaf g l ≡ true) × (root g r ≡ true)
+unfolding astray
+leaf-to-root-of g w e l r d =
+    let n : ℕ = g .nodes in
+    let b = w l r d in
+    let row = any-false n (λ l. any n (λ r. among (g .dominance) l r && not (leaf g l && root g r))) e l (b .0) in
+    let cell = any-false n (λ r. among (g .dominance) l r && not (leaf g l && root g r)) row r (b .1) in
+    and-both (leaf g l) (root g r) (not-false (leaf g l && root g r) (rw d at cell))
+
+not-astray : (g : Graph) → ((l r : ℕ) → DominanceEdge g l r → (leaf g l ≡ true) × (root g r ≡ true)) → astray g ≡ false
+unfolding astray
+not-astray g h =
+    let n : ℕ = g .nodes in
+    any-none n (λ l. any n (λ r. among (g .dominance) l r && not (leaf g l && root g r)))
+    (λ l _. any-none n (λ r. among (g .dominance) l r && not (leaf g l && root g r))
+    (λ r _. by-bool (among (g .dominance) l r) (λ d. let b = h l r d in rw (d, b .0, b .1)) (λ d. rw d)))
+
+pub well-formed-of-whole : (g : Graph) → Taken (g .nodes) (g .tree) (g .dominance) → whole g ≡ accepted g → WellFormed g
+well-formed-of-whole g k e =
+    let p = whole-passed g g e in
+    record {
+      some-nodes = k .some-nodes;
+      few-nodes = k .few-nodes;
+      tree-within = k .tree-within;
+      one-parent = k .one-parent;
+      no-tree-cycle = λ v c. true≢false (sym (cyclic-of-cycle g (k .tree-within) (k .one-parent) v c) ∙ p .0);
+      on-tree-edge = on-tree-edge-of g (p .1);
+      leaf-to-root = leaf-to-root-of g (k .dominance-within) (p .2);
+      few-edges = k .few-edges;
+      all-different = k .all-different;
+    }
+
+pub whole-of-well-formed : (g : Graph) → WellFormed g → whole g ≡ accepted g
+unfolding whole
+whole-of-well-formed g w =
+    let a : cyclic g ≡ false = not-holding (cyclic g) (λ h. let r = cycle-of-cyclic g (w .tree-within) h in w .no-tree-cycle (r .0) (r .1)) in
+    rw (a, not-bare g (w .on-tree-edge), not-astray g (w .leaf-to-root))
+
+pub whole-well-formed : (g : Graph) → Taken (g .nodes) (g .tree) (g .dominance) → (whole g ≡ accepted g) ↔ WellFormed g
+whole-well-formed g k = (well-formed-of-whole g k, whole-of-well-formed g)

@@ -1,0 +1,130 @@
+-- The decisions of a walk: what pushing one at the end of the list and popping it again does, and what holds of the graph
+-- at valid decisions. It is a dominance graph with the same nodes and tree edges, it has a solved form, and its descent
+-- relation has at least one pair more for each decision; so there are at most as many decisions as pairs of nodes.
+use Prim.Native.Nat.{ℕ, zero, suc, _+_, _*_, _≤_, _<_}
+use mathlib.Core.Path.{_≡_, refl, sym, ap, subst, _∙_}
+use mathlib.Core.List.{List, [], _∷_, _++_}
+use mathlib.Core.Bool.{true}
+use native.Mathlib.Nat.{le-of-suc-le-suc}
+use native.Mathlib.Omega.{arith}
+use lib.ListN.{length, getD, take}
+use lib.Seq.{take-suc}
+use Rattle.graph.specs.Graph.{Graph, own, root, leaf}
+use Rattle.graph.specs.Order.{Choice}
+use Rattle.graph.specs.Placing.{Solvable}
+use Rattle.theory_forest.proofs.Shape.{Shaped}
+use Rattle.theory_list.proofs.Redundancy.{Loopless}
+use Rattle.theory_list.proofs.Choosing.{lower-leaf, upper-leaf, pairs, pairs-le}
+use Rattle.theory_walk.specs.Walk.{Decision, half, graphAt, Valid, outset, taken, first, second}
+use Rattle.theory_walk.proofs.Halves.{solvable-loopless, half-nodes, half-tree, half-solvable, half-shaped, half-grows}
+
+-- the graph at the decisions
+
+pub graph-outset : (g : Graph) → graphAt g [] ≡ g
+unfolding graphAt
+graph-outset g = refl
+
+pub graph-pushed : (g : Graph) (ds : List Decision) (d : Decision) → graphAt g (ds ++ (d ∷ [])) ≡ half (graphAt g ds) d
+unfolding graphAt
+graph-pushed g [] d = refl
+graph-pushed g (e ∷ ds) d = graph-pushed (half g e) ds d
+
+-- one edge after the other
+pub graph-next : (g : Graph) (ds : List Decision) (k : ℕ) (d : Decision) → k < length ds → graphAt g (take (suc k) ds) ≡ half (graphAt g (take k ds)) (getD ds k d)
+graph-next g ds k d h = ap (graphAt g) (take-suc ds k d h) ∙ graph-pushed g (take k ds) (getD ds k d)
+
+pub graph-nodes : (g : Graph) (ds : List Decision) → graphAt g ds .nodes ≡ g .nodes
+unfolding graphAt
+graph-nodes g [] = refl
+graph-nodes g (d ∷ ds) = graph-nodes (half g d) ds ∙ half-nodes g d
+
+pub graph-tree : (g : Graph) (ds : List Decision) → graphAt g ds .tree ≡ g .tree
+unfolding graphAt
+graph-tree g [] = refl
+graph-tree g (d ∷ ds) = graph-tree (half g d) ds ∙ half-tree g d
+
+half-leaf : (g : Graph) (d : Decision) (v : ℕ) → leaf (half g d) v ≡ leaf g v
+unfolding leaf
+half-leaf g d v = rw (half-nodes g d, half-tree g d)
+
+pub graph-own : (g : Graph) (ds : List Decision) (v : ℕ) → own (graphAt g ds) v ≡ own g v
+unfolding own
+graph-own g ds v = rw (graph-nodes g ds, graph-tree g ds)
+
+pub graph-root : (g : Graph) (ds : List Decision) (v : ℕ) → root (graphAt g ds) v ≡ root g v
+unfolding root
+graph-root g ds v = rw (graph-nodes g ds, graph-tree g ds)
+
+-- pushing and popping
+
+pub valid-pushed : {g : Graph} {ds : List Decision} → Valid g ds → {v : ℕ} (d : Decision) → Choice (graphAt g ds) v (d .0) (d .1) → Solvable (half (graphAt g ds) d) → Valid g (ds ++ (d ∷ []))
+unfolding graphAt
+valid-pushed outset {v} d c f = taken v d c f outset
+valid-pushed (taken w e b h x) d c f = taken w e b h (valid-pushed x d c f)
+
+-- the last decision, and those before it
+pub record Last (g : Graph) (ds : List Decision) (d : Decision) : Type 0 where
+  pub before : Valid g ds
+  pub choice-root : ℕ
+  pub choice : Choice (graphAt g ds) choice-root (d .0) (d .1)
+  pub solvable : Solvable (half (graphAt g ds) d)
+
+pub valid-popped : (g : Graph) (ds : List Decision) (d : Decision) → Valid g (ds ++ (d ∷ [])) → Last g ds d
+unfolding graphAt
+valid-popped g [] d (taken v e c f x) = record { before = outset; choice-root = v; choice = c; solvable = f }
+valid-popped g (e ∷ ds) d (taken v e₂ c f x) =
+    let l = valid-popped (half g e) ds d x in
+    record { before = taken v e c f (l .before); choice-root = l .choice-root; choice = l .choice; solvable = l .solvable }
+
+-- the other half of the last choice
+pub valid-turned : {g : Graph} (ds : List Decision) (a b : ℕ) → Valid g (ds ++ (first a b ∷ [])) → Solvable (half (graphAt g ds) (second a b)) → Valid g (ds ++ (second a b ∷ []))
+valid-turned {g} ds a b x f =
+    let l = valid-popped g ds (first a b) x in
+    valid-pushed (l .before) (second a b) (l .choice) f
+
+pub valid-prefix : {g : Graph} {ds : List Decision} (k : ℕ) → Valid g ds → Valid g (take k ds)
+valid-prefix zero x = outset
+valid-prefix (suc k) outset = outset
+valid-prefix (suc k) (taken v d c f x) = taken v d c f (valid-prefix k x)
+
+-- each decision is about two leaves
+pub decision-leaves : {g : Graph} {ds : List Decision} → Shaped g → Valid g ds → (k : ℕ) (d : Decision) → k < length ds → (leaf g (getD ds k d .0) ≡ true) × (leaf g (getD ds k d .1) ≡ true)
+decision-leaves s outset k d h = absurd (omega arith)
+decision-leaves s (taken {g = g} v e c f x) zero d h = (lower-leaf g s c, upper-leaf g s c)
+decision-leaves s (taken {g = g} {ds = ds} v e c f x) (suc k) d h =
+    let both = decision-leaves (half-shaped g s e c) x k d (le-of-suc-le-suc h) in
+    (sym (half-leaf g e (getD ds k d .0)) ∙ both .0, sym (half-leaf g e (getD ds k d .1)) ∙ both .1)
+
+-- what holds of the graph at valid decisions
+
+pub graph-shaped : {g : Graph} {ds : List Decision} → Shaped g → Valid g ds → Shaped (graphAt g ds)
+unfolding graphAt
+graph-shaped s outset = s
+graph-shaped s (taken {g = g} v d c f x) = graph-shaped (half-shaped g s d c) x
+
+pub graph-solvable : {g : Graph} {ds : List Decision} → Solvable g → Valid g ds → Solvable (graphAt g ds)
+unfolding graphAt
+graph-solvable f outset = f
+graph-solvable f (taken v d c h x) = graph-solvable h x
+
+-- each decision adds a pair
+pub pairs-grown : {g : Graph} {ds : List Decision} → Shaped g → Valid g ds → pairs g + length ds ≤ pairs (graphAt g ds)
+unfolding graphAt
+pairs-grown s outset = omega arith
+pairs-grown s (taken {g = g} {ds = ds} v d c f x) =
+    let here : pairs g < pairs (half g d) = half-grows g s d c (solvable-loopless (half-solvable g d f)) in
+    let there : pairs (half g d) + length ds ≤ pairs (graphAt (half g d) ds) = pairs-grown (half-shaped g s d c) x in
+    omega arith
+
+pub pairs-bounded : (g : Graph) (ds : List Decision) → pairs (graphAt g ds) ≤ g .nodes * g .nodes
+pairs-bounded g ds = subst (λ (n : ℕ). pairs (graphAt g ds) ≤ n * n) (graph-nodes g ds) (pairs-le (graphAt g ds))
+
+pub few-decisions : {g : Graph} {ds : List Decision} → Shaped g → Valid g ds → length ds ≤ g .nodes * g .nodes
+few-decisions {g} {ds} s x = omega (arith, pairs-grown s x, pairs-bounded g ds)
+
+-- where a choice is left there is room for one more
+pub room-left : {g : Graph} {ds : List Decision} {v a b : ℕ} → Shaped g → Valid g ds → Loopless (graphAt g ds) → Choice (graphAt g ds) v a b → length ds < g .nodes * g .nodes
+room-left {g} {ds} {v} {a} {b} s x n c =
+    let more : pairs (graphAt g ds) < pairs (half (graphAt g ds) (first a b)) = half-grows (graphAt g ds) (graph-shaped s x) (first a b) c n in
+    let top : pairs (half (graphAt g ds) (first a b)) ≤ g .nodes * g .nodes = rw (graph-pushed g ds (first a b)) at (pairs-bounded g (ds ++ (first a b ∷ []))) in
+    omega (arith, pairs-grown s x)

@@ -1,0 +1,81 @@
+-- Where the readings of the graph at the decisions stand in the list: it is what is passed, those readings, and those after
+-- them (`position`). Entering a half splits what is next at the choice, and turning to a second half takes its readings
+-- from those that come after.
+use Prim.Native.Nat.{ℕ}
+use mathlib.Core.Path.{_≡_, refl, sym, ap, _∙_}
+use mathlib.Core.List.{List, [], _∷_, _++_, append-nil, append-assoc}
+use mathlib.Core.Bool.{Bool, true, false}
+use Rattle.graph.specs.Graph.{Graph}
+use Rattle.graph.specs.Order.{Choice}
+use Rattle.theory_forest.proofs.Shape.{Shaped}
+use Rattle.theory_list.proofs.Redundancy.{Loopless}
+use Rattle.theory_list.proofs.Readings.{listed}
+use Rattle.theory_list.proofs.Induction.{Unsolvable}
+use Rattle.theory_walk.specs.Walk.{Decision, first, second, half, graphAt, Valid, outset, taken, otherAfter, after}
+use Rattle.theory_walk.proofs.Halves.{solvable-loopless, listed-empty, listed-split, half-solvable, half-shaped}
+use Rattle.theory_walk.proofs.Decisions.{graph-pushed, Last, valid-popped, graph-shaped}
+
+-- what comes after
+
+pub after-outset : (g : Graph) → after g [] ≡ []
+unfolding after
+after-outset g = refl
+
+after-pushed : (g : Graph) (ds : List Decision) (d : Decision) → after g (ds ++ (d ∷ [])) ≡ otherAfter (graphAt g ds) d ++ after g ds
+unfolding after graphAt
+after-pushed g [] d = sym (append-nil (otherAfter g d))
+after-pushed g (e ∷ ds) d =
+    ap (λ (l : List (List ℕ)). l ++ otherAfter g e) (after-pushed (half g e) ds d)
+    ∙ append-assoc (otherAfter (graphAt (half g e) ds) d) (after (half g e) ds) (otherAfter g e)
+
+pub after-first : (g : Graph) (ds : List Decision) (a b : ℕ) → after g (ds ++ (first a b ∷ [])) ≡ listed (half (graphAt g ds) (second a b)) ++ after g ds
+after-first g ds a b = after-pushed g ds (first a b)
+
+pub after-second : (g : Graph) (ds : List Decision) (a b : ℕ) → after g (ds ++ (second a b ∷ [])) ≡ after g ds
+after-second g ds a b = after-pushed g ds (second a b)
+
+-- where the second half has no readings, nothing comes between
+pub after-dropped : {g : Graph} (ds : List Decision) (a b : ℕ) → Shaped g → Valid g (ds ++ (first a b ∷ [])) → Unsolvable (half (graphAt g ds) (second a b)) → after g (ds ++ (first a b ∷ [])) ≡ after g ds
+after-dropped {g} ds a b s x n =
+    let l : Last g ds (first a b) = valid-popped g ds (first a b) x in
+    let e : listed (half (graphAt g ds) (second a b)) ≡ [] = listed-empty (half (graphAt g ds) (second a b)) (half-shaped (graphAt g ds) (graph-shaped s (l .before)) (second a b) (l .choice)) n in
+    after-first g ds a b ∙ ap (λ (r : List (List ℕ)). r ++ after g ds) e
+
+-- where the readings of the graph at the decisions stand
+
+-- the list of the graph, seen from a half
+entered-half : (g : Graph) → Shaped g → Loopless g → {v : ℕ} (d : Decision) → Choice g v (d .0) (d .1) → (done : List (List ℕ)) × (listed g ≡ done ++ (listed (half g d) ++ otherAfter g d))
+entered-half g s n d c = go (d .2)
+  where
+    go : (side : Bool) → (done : List (List ℕ)) × (listed g ≡ done ++ (listed (half g (d .0, d .1, side)) ++ otherAfter g (d .0, d .1, side)))
+    go true = ([], listed-split g s n c)
+    go false =
+        (listed (half g (first (d .0) (d .1))), listed-split g s n c ∙ ap (λ (l : List (List ℕ)). listed (half g (first (d .0) (d .1))) ++ l) (sym (append-nil (listed (half g (second (d .0) (d .1)))))))
+
+pub position : {g : Graph} {ds : List Decision} → Shaped g → Valid g ds → (done : List (List ℕ)) × (listed g ≡ done ++ (listed (graphAt g ds) ++ after g ds))
+unfolding graphAt after
+position {g} s outset = ([], sym (append-nil (listed g)))
+position s (taken {g = g} {ds = ds} v d c f x) =
+    let here = entered-half g s (solvable-loopless (half-solvable g d f)) d c in
+    let there = position (half-shaped g s d c) x in
+    (here .0 ++ there .0, here .1 ∙ rw (there .1) (simp append-assoc))
+
+-- entering a half
+
+pub listed-first : {g : Graph} {ds : List Decision} {v a b : ℕ} → Shaped g → Valid g ds → Loopless (graphAt g ds) → Choice (graphAt g ds) v a b
+    → listed (graphAt g ds) ++ after g ds ≡ listed (graphAt g (ds ++ (first a b ∷ []))) ++ after g (ds ++ (first a b ∷ []))
+listed-first {g} {ds} {v} {a} {b} s x n c =
+    let h : Graph = graphAt g ds in
+    rw (graph-pushed g ds (first a b), after-first g ds a b, listed-split h (graph-shaped s x) n c)
+    (append-assoc (listed (half h (first a b))) (listed (half h (second a b))) (after g ds))
+
+pub listed-second : {g : Graph} {ds : List Decision} {v a b : ℕ} → Shaped g → Valid g ds → Loopless (graphAt g ds) → Choice (graphAt g ds) v a b → Unsolvable (half (graphAt g ds) (first a b))
+    → listed (graphAt g ds) ++ after g ds ≡ listed (graphAt g (ds ++ (second a b ∷ []))) ++ after g (ds ++ (second a b ∷ []))
+listed-second {g} {ds} {v} {a} {b} s x n c u =
+    let h : Graph = graphAt g ds in
+    let t : Shaped h = graph-shaped s x in
+    rw (graph-pushed g ds (second a b), after-second g ds a b, listed-split h t n c, listed-empty (half h (first a b)) (half-shaped h t (first a b) c) u)
+
+-- turning to the second half
+pub after-turned : (g : Graph) (ds : List Decision) (a b : ℕ) → after g (ds ++ (first a b ∷ [])) ≡ listed (graphAt g (ds ++ (second a b ∷ []))) ++ after g (ds ++ (second a b ∷ []))
+after-turned g ds a b = rw (after-first, after-second, graph-pushed)

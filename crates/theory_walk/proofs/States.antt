@@ -1,0 +1,177 @@
+-- The walk's steps, from state to state. Where a choice is left it enters the first half that has a solved form; where
+-- none is left it stands at a reading, the one that comes next, and leaves it. Leaving a first half it turns to the
+-- second, or drops the decision if that has no solved form; leaving a second half it drops the decision. With no decision
+-- left to drop, every reading is passed.
+use Prim.Native.Nat.{ℕ, _+_, _-_, _*_, _<_}
+use mathlib.Core.Path.{_≡_, sym, ap, subst, _∙_}
+use mathlib.Core.List.{List, [], _∷_, _++_, append-nil}
+use mathlib.Core.Logic.{_⊎_, inl, inr}
+use native.Mathlib.Nat.{add-zero}
+use native.Mathlib.Omega.{arith}
+use lib.ListN.{length, take, drop, length-append, length-drop, take-append-drop}
+use lib.Seq.{drop-append-seam, drop-drop, getD-drop, length-take-le}
+use Rattle.graph.specs.Graph.{Graph}
+use Rattle.graph.specs.Order.{Choice, entry}
+use Rattle.graph.specs.Placing.{Solvable, Reading}
+use Rattle.theory_forest.proofs.Shape.{Shaped}
+use Rattle.theory_list.proofs.Choosing.{Unforked}
+use Rattle.theory_list.proofs.Settled.{settled}
+use Rattle.theory_list.proofs.Readings.{listed, listing-exists, solvable-decided}
+use Rattle.theory_list.proofs.Induction.{Unsolvable}
+use Rattle.theory_walk.specs.Walk.{Decision, first, second, half, graphAt, Valid, outset, after, Remaining, Entering, At, Leaving}
+use Rattle.theory_walk.proofs.Halves.{solvable-loopless, listed-settled, half-shaped, second-solvable}
+use Rattle.theory_walk.proofs.Decisions.{graph-pushed, valid-pushed, valid-popped, valid-turned, graph-shaped, graph-solvable, room-left}
+use Rattle.theory_walk.proofs.Positions.{position, after-outset, after-second, after-dropped, after-turned, listed-first, listed-second}
+
+-- what is left
+
+pub remaining-done : {g : Graph} (done rest : List (List ℕ)) → listed g ≡ done ++ rest → Remaining g (length done) rest
+remaining-done {g} done rest e =
+    record {
+      within = rw (e, length-append done rest) (omega arith);
+      rest-is = rw e (drop-append-seam done rest);
+    }
+
+pub done-remaining : {g : Graph} {k : ℕ} {rest : List (List ℕ)} → Remaining g k rest → (done : List (List ℕ)) × (length done ≡ k) × (listed g ≡ done ++ rest)
+done-remaining {g} {k} {rest} r =
+    (take k (listed g), length-take-le k (listed g) (r .within), sym (take-append-drop k (listed g)) ∙ ap (λ (l : List (List ℕ)). take k (listed g) ++ l) (r .rest-is))
+
+pub remaining-same : {g : Graph} {k : ℕ} {rest more : List (List ℕ)} → rest ≡ more → Remaining g k rest → Remaining g k more
+remaining-same {g} {k} e r = subst (Remaining g k) e r
+
+pub remaining-length : {g : Graph} {k : ℕ} {rest : List (List ℕ)} → Remaining g k rest → k + length rest ≡ length (listed g)
+remaining-length {g} {k} {rest} r =
+    let e : length rest ≡ length (listed g) - k = sym (ap length (r .rest-is)) ∙ length-drop k (listed g) in
+    omega (arith, r .within)
+
+module _ {g : Graph} {k : ℕ} {p : List ℕ} {rest : List (List ℕ)} (r : Remaining g k (p ∷ rest)) where
+  pub remaining-below : k < length (listed g)
+  remaining-below = omega (arith, remaining-length r)
+
+  pub remaining-entry : entry (listed g) k ≡ p
+  remaining-entry =
+      let e : entry (drop k (listed g)) 0 ≡ entry (listed g) (k + 0) = getD-drop k (listed g) 0 [] in
+      subst (λ (i : ℕ). entry (listed g) i ≡ p) (add-zero k) (sym e ∙ ap (λ (l : List (List ℕ)). entry l 0) (r .rest-is))
+
+  pub remaining-next : Remaining g (k + 1) rest
+  remaining-next =
+      record {
+        within = omega (arith, remaining-below);
+        rest-is = sym (drop-drop 1 k (listed g)) ∙ ap (drop 1) (r .rest-is);
+      }
+
+pub remaining-none : {g : Graph} {k : ℕ} → Remaining g k [] → length (listed g) ≡ k
+remaining-none r = omega (arith, remaining-length r)
+
+-- entering
+
+pub entering-outset : (g : Graph) → Solvable g → Entering g [] 0
+unfolding graphAt after
+entering-outset g f =
+    record {
+      valid = outset;
+      solvable = f;
+      remaining = record { within = omega arith; rest-is = sym (append-nil (listed g)) };
+    }
+
+-- valid decisions lead to some place in the list
+pub entering-valid : {g : Graph} {ds : List Decision} → Shaped g → Solvable g → Valid g ds → (k : ℕ) × Entering g ds k
+entering-valid {g} {ds} s f x =
+    let p = position s x in (
+      length (p .0),
+      record {
+        valid = x;
+        solvable = graph-solvable f x;
+        remaining = remaining-done (p .0) (listed (graphAt g ds) ++ after g ds) (p .1);
+      },
+    )
+
+module _ {g : Graph} {ds : List Decision} {k : ℕ} (s : Shaped g) (x : Entering g ds k) where
+  pub entering-shaped : Shaped (graphAt g ds)
+  entering-shaped = graph-shaped s (x .valid)
+
+  -- where a choice is left
+  module _ {v a b : ℕ} (c : Choice (graphAt g ds) v a b) where
+    pub entering-room : length ds < g .nodes * g .nodes
+    entering-room = room-left s (x .valid) (solvable-loopless (x .solvable)) c
+
+    pub entering-first : Solvable (half (graphAt g ds) (first a b)) → Entering g (ds ++ (first a b ∷ [])) k
+    entering-first f =
+        record {
+          valid = valid-pushed (x .valid) (first a b) c f;
+          solvable = subst Solvable (sym (graph-pushed g ds (first a b))) f;
+          remaining = remaining-same (listed-first s (x .valid) (solvable-loopless (x .solvable)) c) (x .remaining);
+        }
+
+    pub entering-second : Unsolvable (half (graphAt g ds) (first a b)) → Entering g (ds ++ (second a b ∷ [])) k
+    entering-second n =
+        let f : Solvable (half (graphAt g ds) (second a b)) = second-solvable (graphAt g ds) entering-shaped c (x .solvable) n in
+        record {
+          valid = valid-pushed (x .valid) (second a b) c f;
+          solvable = subst Solvable (sym (graph-pushed g ds (second a b))) f;
+          remaining = remaining-same (listed-second s (x .valid) (solvable-loopless (x .solvable)) c n) (x .remaining);
+        }
+
+    pub entering-half : (Solvable (half (graphAt g ds) (first a b)) × Entering g (ds ++ (first a b ∷ [])) k) ⊎ (Unsolvable (half (graphAt g ds) (first a b)) × Entering g (ds ++ (second a b ∷ [])) k)
+    entering-half = go (solvable-decided (half (graphAt g ds) (first a b)) (half-shaped (graphAt g ds) entering-shaped (first a b) c))
+      where
+        go : Dec (Solvable (half (graphAt g ds) (first a b))) → (Solvable (half (graphAt g ds) (first a b)) × Entering g (ds ++ (first a b ∷ [])) k) ⊎ (Unsolvable (half (graphAt g ds) (first a b)) × Entering g (ds ++ (second a b ∷ [])) k)
+        go (yes f) = inl (f, entering-first f)
+        go (no n) = inr (n, entering-second n)
+
+  -- where none is left
+  pub entering-at : Unforked (graphAt g ds) → At g ds k
+  entering-at u =
+      let n = solvable-loopless (x .solvable) in
+      record {
+        valid = x .valid;
+        loopless = n;
+        unforked = u;
+        remaining = remaining-same (ap (λ (l : List (List ℕ)). l ++ after g ds) (listed-settled (graphAt g ds) entering-shaped n u)) (x .remaining);
+      }
+
+-- at a reading
+
+module _ {g : Graph} {ds : List Decision} {k : ℕ} (x : At g ds k) where
+  pub at-below : k < length (listed g)
+  at-below = remaining-below (x .remaining)
+
+  pub at-entry : entry (listed g) k ≡ settled (graphAt g ds)
+  at-entry = remaining-entry (x .remaining)
+
+  pub at-reading : Shaped g → Reading g (settled (graphAt g ds))
+  at-reading s = subst (Reading g) at-entry (listing-exists g s .only-readings k at-below)
+
+  pub at-done : (done : List (List ℕ)) × (length done ≡ k) × (listed g ≡ done ++ (settled (graphAt g ds) ∷ after g ds))
+  at-done = done-remaining (x .remaining)
+
+  pub at-leaving : Leaving g ds (k + 1)
+  at-leaving = record { valid = x .valid; remaining = remaining-next (x .remaining) }
+
+-- leaving
+
+module _ {g : Graph} (ds : List Decision) (a b : ℕ) {k : ℕ} (s : Shaped g) (x : Leaving g (ds ++ (first a b ∷ [])) k) where
+  pub leaving-turned : Solvable (half (graphAt g ds) (second a b)) → Entering g (ds ++ (second a b ∷ [])) k
+  leaving-turned f =
+      record {
+        valid = valid-turned ds a b (x .valid) f;
+        solvable = subst Solvable (sym (graph-pushed g ds (second a b))) f;
+        remaining = remaining-same (after-turned g ds a b) (x .remaining);
+      }
+
+  pub leaving-first : Unsolvable (half (graphAt g ds) (second a b)) → Leaving g ds k
+  leaving-first n =
+      record {
+        valid = valid-popped g ds (first a b) (x .valid) .before;
+        remaining = remaining-same (after-dropped ds a b s (x .valid) n) (x .remaining);
+      }
+
+pub leaving-second : {g : Graph} (ds : List Decision) (a b : ℕ) {k : ℕ} → Leaving g (ds ++ (second a b ∷ [])) k → Leaving g ds k
+leaving-second {g} ds a b x =
+    record {
+      valid = valid-popped g ds (second a b) (x .valid) .before;
+      remaining = remaining-same (after-second g ds a b) (x .remaining);
+    }
+
+pub leaving-end : {g : Graph} {k : ℕ} → Leaving g [] k → length (listed g) ≡ k
+leaving-end {g} x = remaining-none (remaining-same (after-outset g) (x .remaining))
