@@ -1,9 +1,9 @@
 -- Runs of stores one behind the other, and lists spread over the numbers below a bound: how long they are, and which
 -- numbers may be passed over.
 use Prim.Native.Nat.{ℕ, zero, suc, _+_, _*_, _≤_, _<_}
-use mathlib.Core.Path.{_≡_, refl, sym, _∙_}
+use mathlib.Core.Path.{_≡_, sym}
 use mathlib.Core.List.{List, [], _∷_, _++_, append-nil}
-use mathlib.Core.Bool.{Bool, true, cond}
+use mathlib.Core.Bool.{Bool, cond}
 use mathlib.Core.Logic.{⊎-elim}
 use native.Mathlib.Nat.{eq-or-lt-of-le, add-zero, mul-one, mul-add, mul-zero}
 use native.Mathlib.Omega.{arith}

@@ -3,7 +3,6 @@
 use Prim.Native.Nat.{ℕ, zero, suc, _+_}
 use mathlib.Core.List.{List, [], _∷_, _++_}
 use mathlib.Core.Bool.{Bool, true, false, cond, _||_, _&&_}
-use lib.Dec.{eqb, ltb}
 
 -- some k below n has p
 unfoldable pub any : ℕ → (ℕ → Bool) → Bool

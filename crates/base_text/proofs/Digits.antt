@@ -11,7 +11,7 @@ use lib.ListN.{length, getD, take, length-append}
 use lib.Seq.{take-suc}
 use borrow.Author.Tests.{lt-ltb, le-ltb, ltb-true, ltb-false}
 use Rattle.base_finite.proofs.Laws.{by-bool}
-use Rattle.graph.specs.Text.{digits, decimal}
+use Rattle.format.specs.Text.{digits, decimal}
 use Rattle.base_text.specs.Lines.{hexDigit, hexBytes}
 
 digits-last : (f k : ℕ) → k < 10 → digits (suc f) k ≡ (48 + k) ∷ []

@@ -15,10 +15,10 @@ use Rattle.base_nodeset.specs.Set.{mem}
 use Rattle.base_nodeset.specs.declared.NodeSet.{NodeSet}
 use Rattle.graph.specs.Graph.{Graph, root, none}
 use Rattle.graph.specs.Placing.{at}
-use Rattle.graph.specs.Refusal.{number}
-use Rattle.graph.specs.Text.{decimal, line, readings-word, more-than-words, refused-word, countLine, readingLine, refusedLine}
-use Rattle.graph.specs.declared.Refusal.{Refusal}
-use Rattle.graph.specs.declared.Refusal.the-variants.{Missing, Command, Range, Tree, Bare, Ends, Repeated, TooMany, NoReading, SmallBuffer, NoSuchReading}
+use Rattle.format.specs.Refusal.{number}
+use Rattle.format.specs.Text.{decimal, line, readings-word, more-than-words, refused-word, countLine, readingLine, refusedLine}
+use Rattle.format.specs.declared.Refusal.{Refusal}
+use Rattle.format.specs.declared.Refusal.the-variants.{Missing, Command, Range, Tree, Bare, Ends, Repeated, TooMany, NoReading, SmallBuffer, NoSuchReading}
 use Rattle.graph.specs.declared.Count.{Count}
 use Rattle.graph.specs.declared.Count.the-variants.{Exactly, More}
 use Rattle.base_text.specs.Lines.{hungAt, hungIn, lineIn, hexBytes, hexLine}

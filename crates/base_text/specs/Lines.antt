@@ -8,7 +8,7 @@ use Rattle.base_finite.specs.Below.{spread}
 use Rattle.base_nodeset.specs.Set.{mem}
 use Rattle.base_nodeset.specs.declared.NodeSet.{NodeSet}
 use Rattle.graph.specs.Graph.{none}
-use Rattle.graph.specs.Text.{decimal, line}
+use Rattle.format.specs.Text.{decimal, line}
 
 -- " r:l", where r is a root hung under the leaf l
 unfoldable pub hungAt : NodeSet → ℕ → ℕ → List ℕ

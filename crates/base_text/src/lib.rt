@@ -1,13 +1,13 @@
 // The lines of document 01's "The printed list", and bytes in hexadecimal. Each function writes from `at` on and hands
 // back the place after.
-use graph::Count;
-use graph::Refusal;
 use base_nodeset::NodeSet;
+use format::Refusal;
+use graph::Count;
 ghost use mathlib.Core.Path.{_≡_};
 ghost use Prim.Native.Nat.{_+_, _≤_, _<_};
 ghost use mathlib.Core.List.{_++_};
 ghost use lib.ListN.{length};
-ghost use Rattle.graph.specs.Text.{decimal, line, countLine, refusedLine};
+ghost use Rattle.format.specs.Text.{decimal, line, countLine, refusedLine};
 ghost use Rattle.base_finite.specs.Stores.{Written};
 ghost use Rattle.base_text.specs.Lines.{hungAt, lineIn, hexDigit, hexLine};
 
@@ -56,7 +56,7 @@ pub fn refused_line(why: Refusal, out: &mut [u8], at: usize) -> usize
     requires { ⌜ at + length (refusedLine why) ≤ length (now out) ⌝ }
     ensures { λ r. ⌜ Written (now (out .entry)) at (refusedLine why) (now (out .exit)) r ⌝ }
 {
-    let number = refusal::number(why) as usize;
+    let number = format::number(why) as usize;
     number_line(b"refused ", number, out, at)
 }
 

@@ -5,7 +5,7 @@ use Prim.Native.Nat.{ℕ, _+_}
 use mathlib.Core.Path.{_≡_}
 use mathlib.Core.List.{List}
 use mathlib.Core.Bool.{cond}
-use Rattle.graph.specs.Sheet.{Outcome}
+use Rattle.format.specs.Sheet.{Outcome}
 use Rattle.graph.specs.Order.{limit}
 use Rattle.graph.specs.declared.Count.{Count}
 use Rattle.graph.specs.declared.Count.the-variants.{Exactly, More}

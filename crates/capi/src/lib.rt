@@ -11,7 +11,7 @@ use put::put_placed;
 use put::put_placing;
 use put::put_table;
 use put::put_tidied;
-ghost use Rattle.graph.specs.Sheet.{outcome};
+ghost use Rattle.format.specs.Sheet.{outcome};
 ghost use Rattle.capi.specs.Interface.{CountTold, ReadingTold, ReadingsTold, ConfigurationTold, DrawingTold, TidyTold, FragmentsTold, CycleTold, PlacingTold};
 
 #[no_mangle]

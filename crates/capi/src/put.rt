@@ -1,16 +1,16 @@
 // The number of an answer, and the value that it carries.
+use check_placing::Answers;
 use counter::Counted;
 use counter::CycleChecked;
 use counter::Drawn;
 use counter::Next;
 use counter::Placed;
 use counter::PlacingChecked;
-use sheet_fragments::Table;
+use format::Refusal;
+use format::number;
 use graph::Count;
-use graph::Refusal;
-use check_placing::Answers;
-use refusal::number;
 use sheet_encode::Tidied;
+use sheet_fragments::Table;
 ghost use mathlib.Core.Path.{_≡_};
 ghost use mathlib.Core.Bool.{cond};
 ghost use Rattle.counter.specs.Calls.{countNumber, placedNumber, drawnNumber};

@@ -14,14 +14,15 @@ use Rattle.base_finite.specs.Below.{any, all, count}
 use Rattle.base_finite.proofs.Laws.{by-bool, or-right, and-both, and-intro, any-at, any-found, any-none, any-false, all-at, all-every, not-holding, test-ext}
 use Rattle.graph.specs.Graph.{Graph, among, entered, leaf, parent, DominanceEdge}
 use Rattle.graph.specs.Cycle.{pairs, node, kind, next, joined, sameEdge, cycle, dominanceAt, hypernormal, hypernormalCycle}
-use Rattle.theory_format.proofs.Edges.{parent-among, parent-only, parent-unentered}
+use Rattle.theory_edges.proofs.Edges.{parent-among, parent-only, parent-unentered}
 use Rattle.base_finite.proofs.Counting.{count-one, all-apart}
-use Rattle.theory_format.proofs.Pigeonhole.{pigeonhole}
+use Rattle.theory_edges.proofs.Pigeonhole.{pigeonhole}
 use Rattle.theory_forest.proofs.Shape.{well-formed-shaped}
 use Rattle.theory_forest.proofs.Fragments.{leaf-not-root}
 use Rattle.theory_refutes.proofs.Cycles.{SameEdge, same-edge, Joined, joined-cases, CycleFacts, cycle-facts, DominanceAt, dominance-at, hypernormal-leaf}
-use Rattle.rows.specs.Rows.{inRow, Tables}
-use Rattle.trees.specs.Trees.{tiedIn}
+use Rattle.base_tables.specs.Rows.{inRow}
+use Rattle.base_tables.specs.Tables.{Tables}
+use Rattle.base_tables.specs.Trees.{tiedIn}
 use Rattle.check_cycle.specs.Check.{NodesBelow, sized, fresh, nodesDiffer, dominanceJoins, joinedIn, allJoined, twoKinds, startsAt, spare, leavesDiffer, checkIn}
 use Rattle.theory_refutes.proofs.Places.{next-inner, next-last, next-below, edges-differ}
 use Rattle.check_cycle.proofs.Scans.{seenBefore, usedBefore, node-new, leaf-first, leaf-second}

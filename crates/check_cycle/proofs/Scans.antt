@@ -11,7 +11,7 @@ use Rattle.base_finite.proofs.Laws.{any-more, any-ext, or-comm, and-false}
 use Rattle.base_nodeset.specs.Set.{mem, Intersection}
 use Rattle.base_nodeset.specs.declared.NodeSet.{NodeSet}
 use Rattle.graph.specs.Cycle.{pairs, node, kind, next}
-use Rattle.rows.specs.Rows.{inRow}
+use Rattle.base_tables.specs.Rows.{inRow}
 use Rattle.check_cycle.specs.Check.{LeafSet, sized, fresh, twoKinds, startsAt, spare}
 
 -- a call's answer decides the test that it is equal to

@@ -11,8 +11,8 @@ use Rattle.base_finite.specs.Below.{any, all}
 use Rattle.base_nodeset.specs.Set.{mem}
 use Rattle.base_nodeset.specs.declared.NodeSet.{NodeSet}
 use Rattle.graph.specs.Cycle.{pairs, node, kind, next}
-use Rattle.rows.specs.Rows.{inRow}
-use Rattle.trees.specs.Trees.{tiedIn}
+use Rattle.base_tables.specs.Rows.{inRow}
+use Rattle.base_tables.specs.Trees.{tiedIn}
 
 abbrev pub NodesBelow : ℕ → List ℕ → Type 0
 NodesBelow n bs = (i : ℕ) → i < pairs bs → node bs i < n

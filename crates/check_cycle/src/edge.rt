@@ -1,6 +1,6 @@
 // Edges between two nodes, from the tables.
-use rows::in_row;
-use trees::tied;
+use base_tables::rows::in_row;
+use base_tables::trees::tied;
 ghost use mathlib.Core.Path.{_≡_};
 ghost use Prim.Native.Nat.{_<_};
 ghost use lib.ListN.{length};

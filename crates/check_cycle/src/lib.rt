@@ -8,13 +8,13 @@ use crate::place::kind_at;
 use crate::place::next_at;
 use crate::place::node_at;
 use base_nodeset::NodeSet;
-use rows::in_row;
+use base_tables::rows::in_row;
 ghost use mathlib.Core.Path.{_≡_};
 ghost use Prim.Native.Nat.{ℕ, _≤_, _<_};
 ghost use lib.ListN.{length};
 ghost use Rattle.graph.specs.Graph as spec;
 ghost use Rattle.graph.specs.Cycle.{pairs, hypernormalCycle};
-ghost use Rattle.rows.specs.Rows.{Tables};
+ghost use Rattle.base_tables.specs.Tables.{Tables};
 ghost use Rattle.check_cycle.specs.Check.{NodesBelow, sized, nodesDiffer, allJoined, twoKinds, LeafSet, leavesDiffer};
 
 // An even number of bytes, two pairs or more, and no more pairs than nodes: a longer cycle would repeat a node.

@@ -10,22 +10,26 @@ use Rattle.base_nodeset.specs.declared.NodeSet.{NodeSet}
 use Rattle.graph.specs.Graph.{Graph, own}
 use Rattle.graph.specs.Order.{Choice, adding}
 use Rattle.graph.specs.Placing.{Below, SolvedForm, Reading}
-use Rattle.theory_forest.proofs.Shape.{Shaped, adding-shaped}
+use Rattle.theory_forest.specs.Shape.{Shaped}
+use Rattle.theory_forest.proofs.Shape.{adding-shaped}
 use Rattle.theory_forest.proofs.Forests.{below-adding, solved-adding}
 use Rattle.theory_forest.proofs.Fragments.{root-adding}
-use Rattle.theory_list.proofs.Choosing.{Unforked, pairs, pairs-le, choice-splits, first-grows, second-grows}
-use Rattle.theory_list.proofs.Settled.{settled}
+use Rattle.theory_list.specs.Choosing.{Unforked, pairs}
+use Rattle.theory_list.proofs.Choosing.{pairs-le, choice-splits, first-grows, second-grows}
+use Rattle.theory_list.specs.Settled.{settled}
 use Rattle.theory_list.proofs.Readings.{reading-least}
-use Rattle.theory_list.proofs.Keeping.{Fresh, first-fresh, second-fresh}
-use Rattle.theory_list.proofs.Guided.{Leads, arrived, to-first, to-second, solved-loopless, leads-solved, leads-within, leads-reading}
-use Rattle.rows.specs.Rows.{inRow, Rows}
+use Rattle.theory_list.specs.Keeping.{Fresh}
+use Rattle.theory_list.proofs.Keeping.{first-fresh, second-fresh}
+use Rattle.theory_list.specs.Guided.{Leads, arrived, to-first, to-second}
+use Rattle.theory_list.proofs.Guided.{solved-loopless, leads-solved, leads-within, leads-reading}
+use Rattle.base_tables.specs.Rows.{inRow, Rows}
 use Rattle.solve_closure.proofs.Laws.{rows-map}
-use Rattle.trees.specs.Trees.{TreeOf}
+use Rattle.base_tables.specs.Trees.{TreeOf}
 use Rattle.solve_reduce.specs.Reduced.{Ends, RootsAre, Reduced}
 use Rattle.solve_reduce.specs.Chosen.{Bounded, Chosen}
 use Rattle.solve_reduce.specs.declared.choose.Fork.{Fork}
 use Rattle.solve_reduce.specs.declared.choose.Fork.the-variants.{None, At}
-use Rattle.trees.proofs.Held.{tree-adding}
+use Rattle.base_tables.proofs.TreeLaws.{tree-adding}
 use Rattle.check_placing.specs.Guide.{Into, HalfOf, Standing, Arrived}
 use Rattle.check_placing.specs.declared.guide.Edge.{Edge}
 

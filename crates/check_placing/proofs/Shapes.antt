@@ -15,11 +15,13 @@ use Rattle.base_nodeset.specs.Set.{mem, OfByte, Intersection, Union}
 use Rattle.base_nodeset.specs.declared.NodeSet.{NodeSet}
 use Rattle.graph.specs.Graph.{Graph, DominanceEdge, root, leaf, none}
 use Rattle.graph.specs.Placing.{at, placing, hangs, Below, SolvedForm}
-use Rattle.theory_format.proofs.Spelling.{leaf-below, root-below}
-use Rattle.theory_forest.proofs.Shape.{Shaped, well-formed-shaped}
+use Rattle.theory_edges.proofs.Ends.{leaf-below, root-below}
+use Rattle.theory_forest.specs.Shape.{Shaped}
+use Rattle.theory_forest.proofs.Shape.{well-formed-shaped}
 use Rattle.theory_forest.proofs.Table.{hangs-parts, below-within}
 use Rattle.theory_forest.proofs.Forests.{acyclic-forest, placing-cases, hanging-solved}
-use Rattle.rows.specs.Rows.{inRow, Rows, Tables}
+use Rattle.base_tables.specs.Rows.{inRow, Rows}
+use Rattle.base_tables.specs.Tables.{Tables}
 use Rattle.solve_closure.specs.Closing.{Links}
 use Rattle.solve_reduce.specs.Reduced.{Ends}
 use Rattle.check_placing.specs.Tests.{fits, placingIn, outside, downwardIn, carried, again, singleIn}

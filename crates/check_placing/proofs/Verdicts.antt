@@ -10,16 +10,17 @@ use Rattle.base_nodeset.specs.Set.{mem}
 use Rattle.base_nodeset.specs.declared.NodeSet.{NodeSet}
 use Rattle.graph.specs.Graph.{Graph, leaf}
 use Rattle.graph.specs.Placing.{placing, Below, SolvedForm, Reading}
-use Rattle.theory_forest.proofs.Shape.{Shaped, well-formed-shaped}
-use Rattle.sheet_decode.specs.Judge.{RootSet}
-use Rattle.rows.specs.Rows.{inRow, Rows, Tables}
-use Rattle.trees.specs.Trees.{TreeOf}
+use Rattle.theory_forest.specs.Shape.{Shaped}
+use Rattle.theory_forest.proofs.Shape.{well-formed-shaped}
+use Rattle.base_tables.specs.Trees.{RootSet, TreeOf}
+use Rattle.base_tables.specs.Rows.{inRow, Rows}
+use Rattle.base_tables.specs.Tables.{Tables}
 use Rattle.solve_reduce.specs.Reduced.{Ends}
-use Rattle.solve_reduce.proofs.Trees.{ends-of}
+use Rattle.solve_reduce.proofs.Ends.{ends-of}
 use Rattle.check_placing.specs.Tests.{placingIn, downwardIn, singleIn}
 use Rattle.check_placing.specs.Answered.{Answered, Noes}
 use Rattle.check_placing.specs.declared.Answers.{Answers}
-use Rattle.trees.proofs.Held.{tree-of}
+use Rattle.base_tables.proofs.TreeLaws.{tree-of}
 use Rattle.check_placing.proofs.Shapes.{placing-is, solved-is, single-is}
 
 pub ends-here : {g : Graph} {n : ℕ} {parents heads-low heads-high : List ℕ} {edges : ℕ} → Tables g n parents heads-low heads-high edges → (leaves roots : NodeSet)

@@ -6,12 +6,12 @@ use mathlib.Core.Logic.{_⊎_}
 use Rattle.base_nodeset.specs.declared.NodeSet.{NodeSet}
 use Rattle.graph.specs.Graph.{Graph, own}
 use Rattle.graph.specs.Placing.{Below, SolvedForm}
-use Rattle.theory_list.proofs.Choosing.{pairs}
-use Rattle.theory_list.proofs.Guided.{Leads}
-use Rattle.theory_list.proofs.Settled.{settled}
-use Rattle.rows.specs.Rows.{Rows}
-use Rattle.trees.specs.Trees.{TreeOf}
-use Rattle.solve_reduce.specs.Reduced.{RootsAre, Given}
+use Rattle.theory_list.specs.Choosing.{pairs}
+use Rattle.theory_list.specs.Guided.{Leads}
+use Rattle.theory_list.specs.Settled.{settled}
+use Rattle.base_tables.specs.Rows.{Rows}
+use Rattle.base_tables.specs.Trees.{TreeOf}
+use Rattle.solve_reduce.specs.Reduced.{RootsAre, LooplessForm}
 use Rattle.check_placing.specs.declared.guide.Edge.{Edge}
 
 abbrev pub Bounded : ℕ → Edge → Type 0
@@ -28,7 +28,7 @@ HalfOf g p a b e = Into g p a b (e .leaf) (e .root) ⊎ Into g p b a (e .leaf) (
 -- pairs, so they are enough.
 pub record Standing (g : Graph) (p : List ℕ) (n : ℕ) (parents : List ℕ) (roots : NodeSet) (under-low under-high : List ℕ) (turns : ℕ) (low high : List ℕ) : Type 0 where
   pub graph : Graph
-  pub given : Given graph n low high
+  pub given : LooplessForm graph n low high
   pub roots-are : RootsAre graph n roots
   pub tree : TreeOf graph n parents
   pub solved : SolvedForm graph p
@@ -39,5 +39,5 @@ pub record Standing (g : Graph) (p : List ℕ) (n : ℕ) (parents : List ℕ) (r
 -- No choice is left.
 pub record Arrived (g : Graph) (p : List ℕ) (n : ℕ) (low high : List ℕ) : Type 0 where
   pub graph : Graph
-  pub given : Given graph n low high
+  pub given : LooplessForm graph n low high
   pub leads : Leads g p (settled graph)

@@ -8,7 +8,7 @@ use Rattle.base_nodeset.specs.Set.{mem}
 use Rattle.base_nodeset.specs.declared.NodeSet.{NodeSet}
 use Rattle.graph.specs.Graph.{none}
 use Rattle.graph.specs.Placing.{at}
-use Rattle.rows.specs.Rows.{inRow}
+use Rattle.base_tables.specs.Rows.{inRow}
 
 -- what stands at v in a placing: nothing, or at a root a leaf
 unfoldable pub fits : ℕ → NodeSet → NodeSet → ℕ → ℕ → Bool

@@ -1,5 +1,8 @@
 // Is a solved form a reading? From the graph follow at each choice of Rule 3 the half that the solved form is in: it is a
 // reading if the way ends in it.
+use base_nodeset::NodeSet;
+use base_tables::rows::in_row;
+use base_tables::trees::own;
 use solve_closure::graph_rows;
 use solve_reduce::choose::Fork;
 use solve_reduce::choose::choose;
@@ -7,9 +10,6 @@ use solve_reduce::reduced::WIDE;
 use solve_reduce::reduced::add;
 use solve_reduce::reduced::reduce;
 use solve_reduce::settle::settle;
-use base_nodeset::NodeSet;
-use rows::in_row;
-use trees::own;
 ghost use mathlib.Core.Path.{_≡_};
 ghost use mathlib.Core.Bool.{true, false};
 ghost use mathlib.Core.List.{List};
@@ -20,12 +20,12 @@ ghost use Rattle.base_nodeset.specs.Set.{mem};
 ghost use Rattle.graph.specs.Graph.{Graph};
 ghost use Rattle.graph.specs.Order.{Choice};
 ghost use Rattle.graph.specs.Placing.{Below, SolvedForm, Reading};
-ghost use Rattle.theory_forest.proofs.Shape.{Shaped};
-ghost use Rattle.theory_list.proofs.Settled.{settled};
-ghost use Rattle.sheet_decode.specs.Judge.{Parents};
-ghost use Rattle.rows.specs.Rows.{Long, Rows, Tables};
-ghost use Rattle.trees.specs.Trees.{TreeOf};
-ghost use Rattle.solve_reduce.specs.Reduced.{Wide, Ends, Given};
+ghost use Rattle.theory_forest.specs.Shape.{Shaped};
+ghost use Rattle.theory_list.specs.Settled.{settled};
+ghost use Rattle.base_tables.specs.Trees.{Parents, TreeOf};
+ghost use Rattle.base_tables.specs.Rows.{Long, Rows};
+ghost use Rattle.base_tables.specs.Tables.{Tables};
+ghost use Rattle.solve_reduce.specs.Reduced.{Wide, Ends, LooplessForm};
 ghost use Rattle.check_placing.specs.Guide.{HalfOf, Bounded, Standing, Arrived};
 
 // The edge that leads into a half.
@@ -100,7 +100,7 @@ fn same(a: &[u8], b: &[u8], n: usize) -> bool
 fn settles(low: &[u64], high: &[u64], n: usize, placing: &[u8]) -> bool
     requires { ⌜ Wide (now low) (now high) × (n ≤ 128) × (n ≤ length (now placing)) ⌝ }
     ensures { λ r. ⌜
-        ((h : Graph) → Given h n (now (low .entry)) (now (high .entry)) →
+        ((h : Graph) → LooplessForm h n (now (low .entry)) (now (high .entry)) →
         (r ≡ true) ↔ (settled h ≡ take n (now (placing .entry))))
         ⌝ }
 {

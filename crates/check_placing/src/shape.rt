@@ -1,15 +1,15 @@
 // What can be read off a placing's bytes and its rows: that it is a placing, a solved form, and that no leaf carries two
 // roots.
-use solve_closure::cyclic;
 use base_nodeset::NodeSet;
-use rows::row;
-use sheet_decode::NONE;
+use base_tables::NONE;
+use base_tables::rows::row;
+use solve_closure::cyclic;
 ghost use mathlib.Core.Path.{_≡_};
 ghost use mathlib.Core.Bool.{not, _&&_};
 ghost use Prim.Native.Nat.{_≤_, _<_};
 ghost use lib.ListN.{length};
 ghost use Rattle.base_finite.specs.Below.{any};
-ghost use Rattle.rows.specs.Rows.{Long, inRow};
+ghost use Rattle.base_tables.specs.Rows.{Long, inRow};
 ghost use Rattle.check_placing.specs.Tests.{fits as fitting, placingIn, outside, downwardIn, singleIn};
 
 // 255, or a leaf where v is a root.

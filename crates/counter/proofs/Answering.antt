@@ -13,26 +13,27 @@ use Rattle.graph.specs.Placing.{SolvedForm, Solvable}
 use Rattle.graph.specs.Order.{Listing, entry, limit, countAnswer}
 use Rattle.graph.specs.Cycle.{hypernormalCycle}
 use Rattle.graph.specs.Rule1.{Rule1}
-use Rattle.graph.specs.Drawing.{drawing}
+use Rattle.format.specs.Drawing.{drawing}
 use Rattle.graph.specs.declared.Count.{Count}
-use Rattle.graph.specs.declared.Refusal.the-variants.{NoReading as No-reading, SmallBuffer, NoSuchReading}
-use Rattle.theory_forest.proofs.Shape.{Shaped, well-formed-shaped}
+use Rattle.format.specs.declared.Refusal.the-variants.{NoReading as No-reading, SmallBuffer, NoSuchReading}
+use Rattle.theory_forest.specs.Shape.{Shaped}
+use Rattle.theory_forest.proofs.Shape.{well-formed-shaped}
 use Rattle.theory_forest.proofs.Forests.{placing-length}
-use Rattle.theory_list.proofs.Readings.{listed, listing-exists, listed-solved, one-below}
-use Rattle.rows.specs.Rows.{Tables}
-use Rattle.solve_branch.specs.Given.{Sheet}
+use Rattle.theory_list.specs.Readings.{listed}
+use Rattle.theory_list.proofs.Readings.{listing-exists, listed-solved, one-below}
+use Rattle.base_tables.specs.Tables.{Tables, SheetTables}
+use Rattle.solve_branch.specs.Fits.{Walkable}
 use Rattle.solve_cycle.specs.Thinning.{Unsolved}
-use Rattle.solve_rule1.specs.Given.{Solved}
+use Rattle.solve_rule1.specs.Solved.{Solved}
 use Rattle.solve_rule1.specs.Step.{Configured}
 use Rattle.show_drawing.specs.Drawn.{Drawable}
 use Rattle.show_drawing.specs.Drawn as text
 use Rattle.check_placing.specs.Answered.{Answered}
 use Rattle.check_placing.specs.declared.Answers.{Answers}
-use Rattle.numbered.specs.Numbered.{Finds}
-use Rattle.stretch.specs.Stretch as stretches
-use Rattle.start.specs.Given.{Given}
-use Rattle.start.specs.Started.{SheetOf}
-use Rattle.start.specs.declared.Start.{Start}
+use Rattle.solve_numbered.specs.Numbered.{Finds}
+use Rattle.solve_stretch.specs.Stretch as stretches
+use Rattle.solve_start.specs.Started.{WalkableOf}
+use Rattle.solve_start.specs.declared.Start.{Start}
 use Rattle.counter.specs.Calls.{Unsolvable, Counts, ReadingCall, StretchCall, ConfigurationCall, DrawingCall}
 use Rattle.counter.specs.Calls as calls
 use Rattle.counter.specs.Checks.{PlacingCall}
@@ -63,7 +64,7 @@ record FirstRead (g : Graph) (old new : List ℕ) : Type 0 where
   pub lent : 2 * g .nodes ≤ length old
   pub wrote : new ≡ entry readings 0 ++ drop (g .nodes) old
 
-module _ {n : ℕ} {parents heads-low heads-high : List ℕ} (s : Given n parents heads-low heads-high) where
+module _ {n : ℕ} {parents heads-low heads-high : List ℕ} (s : SheetTables n parents heads-low heads-high) where
   nodes : n ≡ s .graph .nodes
   nodes = s .tables .nodes
 
@@ -103,19 +104,19 @@ module _ {n : ℕ} {parents heads-low heads-high : List ℕ} (s : Given n parent
 
   -- where there is one
 
-  module _ {owners low high : List ℕ} {r : Start} (x : SheetOf (s .graph) n parents owners r low high) where
+  module _ {owners low high : List ℕ} {r : Start} (x : WalkableOf (s .graph) n parents owners r low high) where
     some : 0 < length (listed (s .graph))
     some = some-listed (s .graph) shaped (subst Solvable (x .is) (x .sheet .solvable))
 
     lists : Listing (s .graph) (listed (s .graph))
     lists = listing-exists (s .graph) shaped
 
-    pub a-count : (k : Count) → ((y : Sheet n parents owners (r .leaves) (r .roots) low high) → k ≡ countAnswer (length (listed (y .graph)))) → Counts (s .graph) (Readings k)
+    pub a-count : (k : Count) → ((y : Walkable n parents owners (r .leaves) (r .roots) low high) → k ≡ countAnswer (length (listed (y .graph)))) → Counts (s .graph) (Readings k)
     a-count k e =
         let here : k ≡ countAnswer (length (listed (s .graph))) = subst (λ (g : Graph). k ≡ countAnswer (length (listed g))) (x .is) (e (x .sheet)) in
         subst (λ (m : Count). Counts (s .graph) (Readings m)) (sym here) (calls.Counts.counted (listed (s .graph)) lists some)
 
-    module _ {k : ℕ} {old new : List ℕ} {b : Bool} (f : (y : Sheet n parents owners (r .leaves) (r .roots) low high) → Finds (y .graph) k old b new) where
+    module _ {k : ℕ} {old new : List ℕ} {b : Bool} (f : (y : Walkable n parents owners (r .leaves) (r .roots) low high) → Finds (y .graph) k old b new) where
       here : Finds (s .graph) k old b new
       here = subst (λ (g : Graph). Finds g k old b new) (x .is) (f (x .sheet))
 
@@ -137,7 +138,7 @@ module _ {n : ℕ} {parents heads-low heads-high : List ℕ} (s : Given n parent
     pub past-last : (place : ℕ) (old : List ℕ) → 2 * n ≤ length old → limit ≤ place → ReadingCall (s .graph) place old (Refused NoSuchReading) place old
     past-last place old h over = calls.ReadingCall.beyond (listed (s .graph)) (omega (arith, nodes, h)) lists some (omega (arith, over))
 
-    module _ {place last : ℕ} {old new : List ℕ} (room : 2 * n ≤ length old) (f : (y : Sheet n parents owners (r .leaves) (r .roots) low high) → stretches.StretchOf (y .graph) place old last new) where
+    module _ {place last : ℕ} {old new : List ℕ} (room : 2 * n ≤ length old) (f : (y : Walkable n parents owners (r .leaves) (r .roots) low high) → stretches.StretchOf (y .graph) place old last new) where
       stretched : stretches.StretchOf (s .graph) place old last new
       stretched = subst (λ (g : Graph). stretches.StretchOf g place old last new) (x .is) (f (x .sheet))
 
@@ -165,7 +166,7 @@ module _ {n : ℕ} {parents heads-low heads-high : List ℕ} (s : Given n parent
 
     -- the reading with the number k, in a table of its own
 
-    module _ {k : ℕ} {blank placing : List ℕ} {b : Bool} (f : (y : Sheet n parents owners (r .leaves) (r .roots) low high) → Finds (y .graph) k blank b placing) where
+    module _ {k : ℕ} {blank placing : List ℕ} {b : Bool} (f : (y : Walkable n parents owners (r .leaves) (r .roots) low high) → Finds (y .graph) k blank b placing) where
       pub none-to-draw : (old : List ℕ) → 1024 ≤ length old → b ≡ false → DrawingCall (s .graph) k old (DrawnRefused NoSuchReading) old
       none-to-draw old h e = calls.DrawingCall.beyond (listed (s .graph)) h lists some (inr (let y = here f .fewer e in omega (arith, y .0)))
 

@@ -8,15 +8,15 @@ use mathlib.Core.Bool.{true}
 use mathlib.Core.Logic.{_⊎_}
 use lib.ListN.{length, take, drop}
 use Rattle.graph.specs.Graph.{Graph}
-use Rattle.graph.specs.Sheet.{Outcome, refused, accepted}
+use Rattle.format.specs.Sheet.{Outcome, refused, accepted}
 use Rattle.graph.specs.Placing.{Solvable}
 use Rattle.graph.specs.Order.{Listing, entry, limit, countAnswer}
 use Rattle.graph.specs.Rule1.{HandedOut}
 use Rattle.graph.specs.Cycle.{hypernormalCycle}
-use Rattle.graph.specs.Drawing.{drawing}
-use Rattle.graph.specs.Refusal.{number}
-use Rattle.graph.specs.declared.Refusal.the-variants.{NoReading as No-reading, SmallBuffer, NoSuchReading}
-use Rattle.stretch.specs.Stretch.{placings}
+use Rattle.format.specs.Drawing.{drawing}
+use Rattle.format.specs.Refusal.{number}
+use Rattle.format.specs.declared.Refusal.the-variants.{NoReading as No-reading, SmallBuffer, NoSuchReading}
+use Rattle.solve_stretch.specs.Stretch.{placings}
 use Rattle.counter.specs.declared.Counted.{Counted}
 use Rattle.counter.specs.declared.Counted.the-variants.{Readings, Refused as CountRefused}
 use Rattle.counter.specs.declared.Placed.{Placed}

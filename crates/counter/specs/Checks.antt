@@ -5,10 +5,10 @@ use mathlib.Core.Path.{_≡_}
 use mathlib.Core.List.{List}
 use lib.ListN.{length, take}
 use Rattle.graph.specs.Graph.{Graph}
-use Rattle.graph.specs.Sheet.{Outcome, refused, accepted}
+use Rattle.format.specs.Sheet.{Outcome, refused, accepted}
 use Rattle.graph.specs.Cycle.{hypernormalCycle}
-use Rattle.graph.specs.Refusal.{number}
-use Rattle.graph.specs.declared.Refusal.the-variants.{SmallBuffer}
+use Rattle.format.specs.Refusal.{number}
+use Rattle.format.specs.declared.Refusal.the-variants.{SmallBuffer}
 use Rattle.sheet_encode.specs.declared.Tidied.{Tidied}
 use Rattle.sheet_encode.specs.declared.Tidied.the-variants.{Length, Refused as TidiedRefused}
 use Rattle.sheet_fragments.specs.declared.Table.{Table}

@@ -6,16 +6,16 @@ use crate::Next;
 use crate::Place;
 use crate::Placed;
 use crate::PlacingChecked;
-use solve_rule1::configure;
+use format::Refusal;
 use show_drawing::draw;
-use graph::Refusal;
-use numbered::LAST;
-use numbered::count;
-use numbered::find;
-use start::begin;
-use stretch::stretch;
 use solve_cycle::witness;
-ghost use Rattle.start.specs.Given.{Given};
+use solve_numbered::LAST;
+use solve_numbered::count;
+use solve_numbered::find;
+use solve_rule1::configure;
+use solve_start::begin;
+use solve_stretch::stretch;
+ghost use Rattle.base_tables.specs.Tables.{SheetTables};
 ghost use Rattle.counter.specs.Calls.{Counts, ReadingCall, StretchCall, ConfigurationCall, DrawingCall};
 ghost use Rattle.counter.specs.Checks.{PlacingCall};
 
@@ -23,9 +23,9 @@ ghost use Rattle.counter.specs.Checks.{PlacingCall};
 const DRAWING: usize = 1024;
 
 pub(crate) fn count_of(parent: &[u8], heads_low: &[u64], heads_high: &[u64], n: usize) -> Counted
-    requires { ⌜ Given n (now parent) (now «heads_low») (now «heads_high») ⌝ }
+    requires { ⌜ SheetTables n (now parent) (now «heads_low») (now «heads_high») ⌝ }
     ensures { λ r. ⌜
-        ((s : Given n (now (parent .entry)) (now («heads_low» .entry)) (now («heads_high» .entry))) →
+        ((s : SheetTables n (now (parent .entry)) (now («heads_low» .entry)) (now («heads_high» .entry))) →
         Counts (s .graph) r)
         ⌝ }
 {
@@ -55,9 +55,9 @@ pub(crate) fn reading_of(
     place: Place,
     out: &mut [u8],
 ) -> Next
-    requires { ⌜ Given n (now parent) (now «heads_low») (now «heads_high») ⌝ }
+    requires { ⌜ SheetTables n (now parent) (now «heads_low») (now «heads_high») ⌝ }
     ensures { λ r. ⌜
-        ((s : Given n (now (parent .entry)) (now («heads_low» .entry)) (now («heads_high» .entry))) →
+        ((s : SheetTables n (now (parent .entry)) (now («heads_low» .entry)) (now («heads_high» .entry))) →
         ReadingCall (s .graph) (place .number) (now (out .entry)) (r .answer) (r .place .number) (now (out .exit)))
         ⌝ }
 {
@@ -120,9 +120,9 @@ pub(crate) fn stretch_of(
     place: Place,
     out: &mut [u8],
 ) -> Next
-    requires { ⌜ Given n (now parent) (now «heads_low») (now «heads_high») ⌝ }
+    requires { ⌜ SheetTables n (now parent) (now «heads_low») (now «heads_high») ⌝ }
     ensures { λ r. ⌜
-        ((s : Given n (now (parent .entry)) (now («heads_low» .entry)) (now («heads_high» .entry))) →
+        ((s : SheetTables n (now (parent .entry)) (now («heads_low» .entry)) (now («heads_high» .entry))) →
         StretchCall (s .graph) (place .number) (now (out .entry)) (r .answer) (r .place .number) (now (out .exit)))
         ⌝ }
 {
@@ -182,9 +182,9 @@ pub(crate) fn configuration_of(
     n: usize,
     out: &mut [u8],
 ) -> Placed
-    requires { ⌜ Given n (now parent) (now «heads_low») (now «heads_high») ⌝ }
+    requires { ⌜ SheetTables n (now parent) (now «heads_low») (now «heads_high») ⌝ }
     ensures { λ r. ⌜
-        ((s : Given n (now (parent .entry)) (now («heads_low» .entry)) (now («heads_high» .entry))) →
+        ((s : SheetTables n (now (parent .entry)) (now («heads_low» .entry)) (now («heads_high» .entry))) →
         ConfigurationCall (s .graph) (now (out .entry)) r (now (out .exit)))
         ⌝ }
 {
@@ -204,9 +204,9 @@ pub(crate) fn drawing_of(
     number: usize,
     out: &mut [u8],
 ) -> Drawn
-    requires { ⌜ Given n (now parent) (now «heads_low») (now «heads_high») ⌝ }
+    requires { ⌜ SheetTables n (now parent) (now «heads_low») (now «heads_high») ⌝ }
     ensures { λ r. ⌜
-        ((s : Given n (now (parent .entry)) (now («heads_low» .entry)) (now («heads_high» .entry))) →
+        ((s : SheetTables n (now (parent .entry)) (now («heads_low» .entry)) (now («heads_high» .entry))) →
         DrawingCall (s .graph) number (now (out .entry)) r (now (out .exit)))
         ⌝ }
 {
@@ -258,9 +258,9 @@ pub(crate) fn checked_placing(
     n: usize,
     placing: &[u8],
 ) -> PlacingChecked
-    requires { ⌜ Given n (now parent) (now «heads_low») (now «heads_high») ⌝ }
+    requires { ⌜ SheetTables n (now parent) (now «heads_low») (now «heads_high») ⌝ }
     ensures { λ r. ⌜
-        ((s : Given n (now (parent .entry)) (now («heads_low» .entry)) (now («heads_high» .entry))) →
+        ((s : SheetTables n (now (parent .entry)) (now («heads_low» .entry)) (now («heads_high» .entry))) →
         PlacingCall (s .graph) (now (placing .entry)) r)
         ⌝ }
 {

@@ -2,23 +2,19 @@
 -- The chain of two is the document's; the others are its smallest sheets.
 use Prim.Native.Nat.{ℕ}
 use mathlib.Core.Path.{_≡_, refl}
-use mathlib.Core.List.{List, [], _∷_, _++_}
-use mathlib.Core.Bool.{Bool, true, false, cond, not, _&&_, _||_}
+use mathlib.Core.List.{List, [], _∷_}
+use mathlib.Core.Bool.{true, false}
 use Rattle.base_finite.specs.Below.{any, all, count, least, spread, select}
-use Rattle.graph.specs.Graph.{Edge, Graph, among, entered, left, root, leaf, parent, top, own, leafOf, distinct, single, none}
-use Rattle.graph.specs.Sheet.{Outcome, refused, accepted, rises, cyclic, bare, astray, whole, takesTwo, beyond, commands, outcome, tidyTree, tidyDominance, tidy, spelt, sheet, tree-edge, dominance-edge}
+use Rattle.graph.specs.Graph.{Graph, among, entered, left, root, leaf, parent, top, own, leafOf}
 use Rattle.graph.specs.Placing.{placing, hangs}
-use Rattle.graph.specs.Order.{without, adding, countAnswer}
+use Rattle.graph.specs.Order.{countAnswer}
 use Rattle.graph.specs.Rule1.{problem, up, rise, depth, shallowest, problemLeaf, staying, lowestLeaf, shifted}
 use Rattle.graph.specs.Cycle.{pairs, joined, sameEdge, cycle, dominanceAt, hypernormal, hypernormalCycle}
-use Rattle.graph.specs.Text.{digits, decimal, countLine, readingLine, refusedLine}
-use Rattle.graph.specs.Drawing.{separated, leafText, fragmentText, drawing}
-use Rattle.graph.specs.Table.{fragment, fragments}
-use Rattle.graph.specs.declared.Refusal.the-variants.{Missing, Command, Range, Tree, Bare, Ends, Repeated}
+use Rattle.graph.specs.Table.{fragment}
 use Rattle.graph.specs.declared.Count.the-variants.{Exactly, More}
 
 -- The chain of two, as the document writes it.
-pub chain : Graph
+unfoldable pub chain : Graph
 chain =
     record {
       nodes = 12;
@@ -27,7 +23,7 @@ chain =
     }
 
 -- its reading 1, "3:2 6:1 8:4 10:5"
-pub chain-first : List ℕ
+unfoldable pub chain-first : List ℕ
 chain-first = 255 ∷ 255 ∷ 255 ∷ 2 ∷ 255 ∷ 255 ∷ 1 ∷ 255 ∷ 4 ∷ 255 ∷ 5 ∷ 255 ∷ []
 
 -- own, root, leaf: 5 is a leaf of 3's fragment, 3 is not
@@ -55,19 +51,6 @@ under-a-root-is-none = refl
 short-is-none : placing chain (255 ∷ []) ≡ false
 unfolding chain placing root leaf entered left all
 short-is-none = refl
-
--- "Reading 1 is drawn 0(1[6(7)],2[3(4[8(9)],5[10(11)])])."
-drawn : drawing chain chain-first
-    ≡ 48 ∷ 40 ∷ 49 ∷ 91 ∷ 54 ∷ 40 ∷ 55 ∷ 41 ∷ 93 ∷ 44 ∷ 50 ∷ 91 ∷ 51 ∷ 40 ∷ 52 ∷ 91 ∷ 56 ∷ 40 ∷ 57 ∷ 41 ∷ 93 ∷ 44
-    ∷ 53 ∷ 91 ∷ 49 ∷ 48 ∷ 40 ∷ 49 ∷ 49 ∷ 41 ∷ 93 ∷ 41 ∷ 93 ∷ 41 ∷ []
-unfolding chain chain-first drawing fragmentText leafText separated decimal digits hangs root leaf entered left leafOf own top parent any select spread
-drawn = refl
-
--- the line "1 3:2 6:1 8:4 10:5", and "1" alone where nothing hangs
-first-line : readingLine chain 1 chain-first
-    ≡ 49 ∷ 32 ∷ 51 ∷ 58 ∷ 50 ∷ 32 ∷ 54 ∷ 58 ∷ 49 ∷ 32 ∷ 56 ∷ 58 ∷ 52 ∷ 32 ∷ 49 ∷ 48 ∷ 58 ∷ 53 ∷ 10 ∷ []
-unfolding chain chain-first readingLine decimal digits root entered spread
-first-line = refl
 
 -- "readings more than 65535" is one line, and the count is "more" just past 65,535
 at-the-limit : countAnswer 65535 ≡ Exactly 65535
@@ -123,49 +106,6 @@ square-shifted = refl
 square-done : any 8 (problem square (255 ∷ 255 ∷ 1 ∷ 255 ∷ 3 ∷ 255 ∷ 5 ∷ 255 ∷ [])) ≡ false
 unfolding square problem hangs root leaf entered left any count
 square-done = refl
-
--- The order of refusals: operands are missed before they are out of range; a repeat is told before the bounds of a whole sheet.
-nothing : outcome [] ≡ refused Missing
-unfolding outcome
-nothing = refl
-
-unknown-first : outcome (5 ∷ []) ≡ refused Command
-unfolding outcome
-unknown-first = refl
-
-too-many-nodes : outcome (1 ∷ 129 ∷ []) ≡ refused Range
-unfolding outcome
-too-many-nodes = refl
-
-most-nodes : outcome (1 ∷ 128 ∷ []) ≡ refused Missing
-unfolding outcome commands
-most-nodes = refl
-
-bare-nodes : outcome (1 ∷ 2 ∷ 0 ∷ []) ≡ refused Bare
-unfolding outcome commands takesTwo whole cyclic rises bare astray entered left any
-bare-nodes = refl
-
-operand-missing-first : outcome (1 ∷ 2 ∷ 2 ∷ 9 ∷ []) ≡ refused Missing
-unfolding outcome commands takesTwo
-operand-missing-first = refl
-
-tree-loop-before-bare : outcome (1 ∷ 3 ∷ 2 ∷ 0 ∷ 1 ∷ 2 ∷ 1 ∷ 0 ∷ 0 ∷ []) ≡ refused Tree
-unfolding outcome commands takesTwo beyond whole cyclic rises bare astray entered left parent any
-tree-loop-before-bare = refl
-
-astray-edge : outcome (1 ∷ 2 ∷ 2 ∷ 0 ∷ 1 ∷ 3 ∷ 0 ∷ 0 ∷ 0 ∷ []) ≡ refused Ends
-unfolding outcome commands takesTwo beyond whole cyclic rises bare astray among entered left parent root leaf any
-astray-edge = refl
-
-repeat-before-astray : outcome (1 ∷ 2 ∷ 2 ∷ 0 ∷ 1 ∷ 3 ∷ 0 ∷ 0 ∷ 3 ∷ 0 ∷ 0 ∷ 0 ∷ []) ≡ refused Repeated
-unfolding outcome commands takesTwo beyond whole cyclic rises bare astray among entered left parent root leaf any
-repeat-before-astray = refl
-
--- the tidy sheet of the chain's first fragment, whatever the order of its commands
-tidied : tidy (record { nodes = 3; tree = (0, 2) ∷ (0, 1) ∷ []; dominance = (2, 0) ∷ (1, 0) ∷ [] })
-    ≡ 1 ∷ 3 ∷ 2 ∷ 0 ∷ 1 ∷ 2 ∷ 0 ∷ 2 ∷ 3 ∷ 1 ∷ 0 ∷ 3 ∷ 2 ∷ 0 ∷ 0 ∷ []
-unfolding tidy tidyTree tidyDominance among spread
-tidied = refl
 
 -- the table of the chain: the record of 3 has lowest leaf 4 and 2 leaves
 record-of-three : fragment chain 3 ≡ record { root = 3; «lowest_leaf» = 4; leaves = 2 }

@@ -7,6 +7,7 @@ use mathlib.Core.Bool.{Bool, true, false, cond, not, _&&_, _||_}
 use mathlib.Core.Logic.{_⊎_}
 use lib.Dec.{eqb, ltb}
 use lib.ListN.{length}
+use Rattle.base_finite.specs.Below.{any}
 
 -- an edge from its first part to its second
 abbrev pub Edge : Type 0
@@ -66,6 +67,15 @@ none = 255
 unfoldable pub parent : List Edge → ℕ → ℕ
 parent [] v = none
 parent (e ∷ es) v = cond (eqb (e .1) v) (e .0) (parent es v)
+
+-- k tree edges, one above the other, lead up from v
+unfoldable pub rises : ℕ → List Edge → ℕ → Bool
+rises zero t v = true
+rises (suc k) t v = entered t v && rises k t (parent t v)
+
+-- "tree edges form a cycle" (refusal 4, of the whole sheet). Where no node has two parents, that is a node with n edges above it.
+unfoldable pub cyclic : Graph → Bool
+cyclic g = any (g .nodes) (rises (g .nodes) (g .tree))
 
 -- from v up the tree edges to a node that none goes to, k edges at most
 unfoldable pub top : ℕ → List Edge → ℕ → ℕ

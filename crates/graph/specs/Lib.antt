@@ -1,10 +1,6 @@
-pub mod Refusal
 pub mod Graph
-pub mod Sheet
 pub mod Placing
 pub mod Order
 pub mod Rule1
 pub mod Cycle
-pub mod Text
-pub mod Drawing
 pub mod Table

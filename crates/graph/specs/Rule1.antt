@@ -4,7 +4,6 @@ use mathlib.Core.Path.{_≡_}
 use mathlib.Core.List.{List, [], _∷_}
 use mathlib.Core.Bool.{Bool, true, false, cond, not, _&&_, _||_}
 use lib.Dec.{eqb, leb}
-use lib.ListN.{length}
 use Rattle.base_finite.specs.Below.{any, all, count, least, spread}
 use Rattle.graph.specs.Graph.{Graph, entered, parent, leafOf, none}
 use Rattle.graph.specs.Placing.{at, hangs}

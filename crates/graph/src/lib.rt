@@ -1,20 +1,5 @@
 // What the definitions under specs/ speak of; no code.
 
-// The refusals of document 01, "Who can cause which refusal"; `number` of specs/Refusal.antt gives the number of each.
-pub enum Refusal {
-    Missing,
-    Command,
-    Range,
-    Tree,
-    Bare,
-    Ends,
-    Repeated,
-    TooMany,
-    NoReading,
-    SmallBuffer,
-    NoSuchReading,
-}
-
 // The count: exact up to 65,535, and otherwise "more".
 pub enum Count {
     Exactly(usize),

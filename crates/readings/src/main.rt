@@ -1,28 +1,28 @@
 // Lists the readings of the sheet on standard input, up to 2,048 bytes, as document 01's "The printed list" has them.
-use solve_reduce::reduced::WIDE;
-use graph::Count;
-use graph::Refusal;
-use solve_branch::levels::WORDS;
-use libc::STDOUT_FILENO;
 use base_nodeset::NodeSet;
-use numbered::LAST;
-use numbered::PAIRS;
-use numbered::count;
-use show_list::fill;
-use sheet_decode::judge::Verdict;
-use sheet_decode::read::read;
-use start::begin;
 use base_text::count_line;
 use base_text::refused_line;
+use format::Refusal;
+use graph::Count;
+use libc::STDOUT_FILENO;
+use sheet_decode::judge::Verdict;
+use sheet_decode::read::read;
+use show_list::fill;
+use solve_branch::levels::WORDS;
+use solve_numbered::LAST;
+use solve_numbered::PAIRS;
+use solve_numbered::count;
+use solve_reduce::reduced::WIDE;
+use solve_start::begin;
 use solve_walk::steps::first;
 ghost use mathlib.Core.Path.{_≡_};
 ghost use mathlib.Core.Bool.{false};
 ghost use Prim.Native.Nat.{min};
 ghost use lib.ListN.{length};
 ghost use Rattle.graph.specs.Order.{limit, countAnswer};
-ghost use Rattle.theory_list.proofs.Readings.{listed};
-ghost use Rattle.start.specs.Given.{Given};
-ghost use Rattle.solve_branch.specs.Given.{Sheet};
+ghost use Rattle.theory_list.specs.Readings.{listed};
+ghost use Rattle.base_tables.specs.Tables.{SheetTables};
+ghost use Rattle.solve_branch.specs.Fits.{Walkable};
 
 // A page is written at once. A list that fits into one is walked through once.
 const PAGE: usize = 262144;
@@ -52,13 +52,13 @@ fn total(
     last: usize,
     more: bool,
 ) -> Count
-    requires { ⌜ Sheet n (now parent) (now owner) leaves roots (now «base_low») (now «base_high») ⌝ }
+    requires { ⌜ Walkable n (now parent) (now owner) leaves roots (now «base_low») (now «base_high») ⌝ }
     requires { ⌜
-        ((s : Sheet n (now parent) (now owner) leaves roots (now «base_low») (now «base_high»)) →
+        ((s : Walkable n (now parent) (now owner) leaves roots (now «base_low») (now «base_high»)) →
         more ≡ false → last ≡ min (length (listed (s .graph))) limit)
         ⌝ }
     ensures { λ r. ⌜
-        ((s : Sheet n (now (parent .entry)) (now (owner .entry)) leaves roots (now («base_low» .entry)) (now («base_high» .entry))) →
+        ((s : Walkable n (now (parent .entry)) (now (owner .entry)) leaves roots (now («base_low» .entry)) (now («base_high» .entry))) →
         r ≡ countAnswer (length (listed (s .graph))))
         ⌝ }
 {
@@ -83,9 +83,9 @@ fn print_total(
     last: usize,
     more: bool,
 )
-    requires { ⌜ Sheet n (now parent) (now owner) leaves roots (now «base_low») (now «base_high») ⌝ }
+    requires { ⌜ Walkable n (now parent) (now owner) leaves roots (now «base_low») (now «base_high») ⌝ }
     requires { ⌜
-        ((s : Sheet n (now parent) (now owner) leaves roots (now «base_low») (now «base_high»)) →
+        ((s : Walkable n (now parent) (now owner) leaves roots (now «base_low») (now «base_high»)) →
         more ≡ false → last ≡ min (length (listed (s .graph))) limit)
         ⌝ }
 {
@@ -114,7 +114,7 @@ fn print_readings(
     base_low: &[u64],
     base_high: &[u64],
 )
-    requires { ⌜ Sheet n (now parent) (now owner) leaves roots (now «base_low») (now «base_high») ⌝ }
+    requires { ⌜ Walkable n (now parent) (now owner) leaves roots (now «base_low») (now «base_high») ⌝ }
 {
     let mut low = [0u64; WIDE];
     let mut high = [0u64; WIDE];
@@ -178,7 +178,7 @@ fn print_readings(
 
 // The list of a well-formed sheet with these tables.
 fn print_list(parent: &[u8], heads_low: &[u64], heads_high: &[u64], n: usize)
-    requires { ⌜ Given n (now parent) (now «heads_low») (now «heads_high») ⌝ }
+    requires { ⌜ SheetTables n (now parent) (now «heads_low») (now «heads_high») ⌝ }
 {
     let mut owner = [0u8; 128];
     let mut low = [0u64; 128];

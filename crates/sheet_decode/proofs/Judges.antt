@@ -1,23 +1,25 @@
 -- The tests after the last command: each loop's step, and that the tests on the tables are those on the edges held.
-use Prim.Native.Nat.{ℕ, zero, suc, _+_, _-_, _≤_, _<_}
+use Prim.Native.Nat.{ℕ, zero, suc, _-_, _≤_, _<_}
 use mathlib.Core.Path.{_≡_, refl, sym, _∙_}
 use mathlib.Core.List.{List}
-use mathlib.Core.Bool.{true, false, not, _||_, _&&_}
+use mathlib.Core.Bool.{true, false, not, _&&_}
 use native.Mathlib.Omega.{arith}
-use lib.Dec.{eqb, ltb}
 use lib.ListN.{getD}
-use borrow.Author.Tests.{eq-eqb, ne-eqb, eqb-true, eqb-false, lt-ltb, le-ltb, ltb-true, ltb-false}
+use borrow.Author.Tests.{eq-eqb, ne-eqb, lt-ltb}
 use Rattle.base_finite.specs.Below.{any}
-use Rattle.base_finite.proofs.Laws.{by-bool, any-ext, any-more, any-cut, and-true, neither, and-both}
+use Rattle.base_finite.proofs.Laws.{by-bool, any-ext, any-cut, and-true, neither, and-both}
 use Rattle.base_nodeset.specs.Set.{member, mem, Difference}
 use Rattle.base_nodeset.specs.declared.NodeSet.{NodeSet}
-use Rattle.theory_format.proofs.Spelling.{root-below}
-use Rattle.sheet_decode.proofs.Trees.{rises-held, inner-held, root-held}
-use Rattle.graph.specs.Graph.{Edge, Graph, entered, left, root, leaf, none}
-use Rattle.graph.specs.Sheet.{rises, cyclic, bare, astray, whole, refused, accepted}
-use Rattle.graph.specs.declared.Refusal.the-variants.{Tree, Bare, Ends}
-use Rattle.sheet_decode.specs.Turn.{Holds}
-use Rattle.sheet_decode.specs.Judge.{InnerSet, RootSet, risesIn, cyclicIn, innerIn, rootIn, strayIn, astrayIn}
+use Rattle.theory_edges.specs.Edges.{Within}
+use Rattle.theory_edges.proofs.Edges.{parent-among}
+use Rattle.theory_edges.proofs.Ends.{root-below}
+use Rattle.base_tables.proofs.Parents.{parentless, inner-held, root-held}
+use Rattle.graph.specs.Graph.{Edge, Graph, entered, left, parent, root, leaf, none, rises, cyclic}
+use Rattle.format.specs.Sheet.{bare, astray, whole, refused, accepted}
+use Rattle.format.specs.declared.Refusal.the-variants.{Tree, Bare, Ends}
+use Rattle.base_tables.specs.Tables.{Holds}
+use Rattle.base_tables.specs.Trees.{InnerSet, RootSet, innerIn, rootIn}
+use Rattle.sheet_decode.specs.Judge.{risesIn, cyclicIn, strayIn, astrayIn}
 
 -- one edge up
 
@@ -40,33 +42,6 @@ rises-top (suc k) parents v h = absurd (omega arith)
 
 -- one node more in a set
 
-pub inner-none : (parents : List ℕ) (u : ℕ) → innerIn 0 parents u ≡ false
-unfolding innerIn any
-inner-none parents u = refl
-
-pub inner-more : (v : ℕ) (parents : List ℕ) (u : ℕ) → innerIn (v + 1) parents u ≡ (innerIn v parents u || eqb (getD parents v 0) u)
-unfolding innerIn
-inner-more v parents u = any-more v (λ c. eqb (getD parents c 0) u)
-
-pub roots-none : (parents : List ℕ) (u : ℕ) → rootIn 0 parents u ≡ false
-unfolding rootIn
-roots-none parents u = rw (le-ltb u 0 (omega arith))
-
-pub roots-more : (v : ℕ) (parents : List ℕ) (u : ℕ) → rootIn (v + 1) parents u ≡ (eqb u v && eqb (getD parents v 0) none || rootIn v parents u)
-unfolding rootIn
-roots-more v parents u =
-    by-bool (eqb u v)
-    (λ (e : eqb u v ≡ true).
-    let q : u ≡ v = eqb-true u v e in
-    rw (e, q, lt-ltb v (v + 1) (omega arith), le-ltb v v (omega arith)) (by-bool (eqb (getD parents v 0) none) (λ f. rw f) (λ f. rw f)))
-    (λ (e : eqb u v ≡ false).
-    let other : u ≡ v → ⊥ = eqb-false u v e in
-    rw e
-    (by-bool (ltb u v)
-    (λ (f : ltb u v ≡ true). rw (f, lt-ltb u (v + 1) (omega (arith, ltb-true u v f))))
-    (λ (f : ltb u v ≡ false).
-    rw (f, le-ltb u (v + 1) (omega (arith, ltb-false u v f))))))
-
 -- the edges of one row
 
 pub stray-inner : (row : NodeSet) (l : ℕ) (inner roots : NodeSet) → mem inner l ≡ true → strayIn row l inner roots ≡ any 128 (mem row)
@@ -78,6 +53,17 @@ unfolding strayIn
 stray-leaf row l inner roots e = any-ext 128 _ _ (λ k h. rw e)
 
 -- the tests on tables that hold a graph's edges
+
+module _ (n : ℕ) (t : List Edge) (parents : List ℕ) (few : n ≤ 128) (within : Within n t) (parent-is : (v : ℕ) → v < 128 → getD parents v 0 ≡ parent t v) where
+  pub rises-held : (k v : ℕ) → v < n → risesIn k parents v ≡ rises k t v
+  unfolding risesIn rises
+  rises-held zero v h = refl
+  rises-held (suc k) v h =
+      by-bool (entered t v)
+      (λ (e : entered t v ≡ true).
+      let up = within (parent t v) v (parent-among t v e) in
+      rw (parentless n t parents few within parent-is v h, e, parent-is v (omega arith)) (rises-held k (parent t v) (up .0)))
+      (λ (e : entered t v ≡ false). rw (parentless n t parents few within parent-is v h, e))
 
 abbrev pub graphOf : ℕ → List Edge → List Edge → Graph
 graphOf n t d = record { nodes = n; tree = t; dominance = d }

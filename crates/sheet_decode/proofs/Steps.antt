@@ -1,6 +1,6 @@
 -- The laws of `stepOf`: its cases by the command byte and the number of bytes left, and what `commands` makes of a step.
-use Prim.Native.Nat.{ℕ, zero, suc, _+_, _-_, _≤_, _<_}
-use mathlib.Core.Path.{_≡_, refl, sym, ap, _∙_}
+use Prim.Native.Nat.{ℕ, _+_, _-_, _≤_, _<_}
+use mathlib.Core.Path.{_≡_, refl, sym, _∙_}
 use mathlib.Core.List.{List, [], _∷_}
 use mathlib.Core.Bool.{Bool, true, false, cond, _||_, false≢true}
 use native.Mathlib.Omega.{arith}
@@ -8,11 +8,11 @@ use native.Mathlib.Nat.{add-zero}
 use lib.Dec.{eqb, leb}
 use lib.ListN.{length, getD, drop, length-drop}
 use lib.Seq.{getD-drop}
-use borrow.Author.Tests.{eq-eqb, ne-eqb}
+use borrow.Author.Tests.{ne-eqb}
 use Rattle.base_finite.proofs.Laws.{by-bool}
-use Rattle.graph.specs.Graph.{Edge, Graph, among, entered}
-use Rattle.graph.specs.Sheet.{Outcome, refused, accepted, takesTwo, beyond, whole, commands}
-use Rattle.graph.specs.declared.Refusal.the-variants.{Missing, Command, Range, Tree as TreeRefusal, Repeated, TooMany}
+use Rattle.graph.specs.Graph.{Edge, among, entered}
+use Rattle.format.specs.Sheet.{Outcome, refused, takesTwo, beyond, whole, commands}
+use Rattle.format.specs.declared.Refusal.the-variants.{Missing, Command, Range, Tree as TreeRefusal, Repeated, TooMany}
 use Rattle.sheet_decode.specs.Step.{stepOf, endOf}
 use Rattle.sheet_decode.specs.Turn.{Advanced}
 use Rattle.sheet_decode.specs.declared.turn.Turn.{Turn}

@@ -1,26 +1,29 @@
 -- What a turn says of `commands`: the tests on the tables are the tests on the edges that they hold, and a table with
 -- the edge put in holds one edge more.
 use Prim.Native.Nat.{ℕ, _+_, _≤_, _<_}
-use mathlib.Core.Path.{_≡_, refl, sym, ap, _∙_}
-use mathlib.Core.List.{List, [], _∷_}
-use mathlib.Core.Bool.{Bool, true, false, cond, not, _||_, _&&_, true≢false}
+use mathlib.Core.Path.{_≡_, sym, _∙_}
+use mathlib.Core.List.{List, _∷_}
+use mathlib.Core.Bool.{true, false, not, _||_, _&&_}
 use mathlib.Core.Logic.{⊎-elim}
 use native.Mathlib.Numerals.{add-one}
 use native.Mathlib.Omega.{arith}
 use lib.Dec.{eqb, leb}
 use lib.ListN.{length, getD, set, drop, length-set}
 use lib.Seq.{getD-set-same, getD-set-other}
-use borrow.Author.Tests.{le-leb, lt-leb, leb-false, eq-eqb, ne-eqb, eqb-true, eqb-false}
+use borrow.Author.Tests.{le-leb, lt-leb, leb-false, eqb-true, eqb-false}
 use Rattle.base_nodeset.specs.Set.{member}
-use Rattle.base_finite.proofs.Laws.{by-bool, or-left, or-right, or-none, eqb-sym}
-use Rattle.graph.specs.Graph.{Edge, Graph, among, entered, single, parent, none}
-use Rattle.graph.specs.Sheet.{Outcome, refused, beyond, whole, commands}
-use Rattle.graph.specs.declared.Refusal.{Refusal}
-use Rattle.graph.specs.declared.Refusal.the-variants.{Range, Tree as TreeRefusal, Repeated, TooMany}
-use Rattle.theory_format.proofs.Edges.{Within, parent-among, parent-unentered, among-cases}
+use Rattle.base_finite.proofs.Laws.{by-bool, or-right, or-none, eqb-sym}
+use Rattle.graph.specs.Graph.{Edge, among, entered, single, parent, none}
+use Rattle.format.specs.Sheet.{beyond, commands}
+use Rattle.format.specs.declared.Refusal.{Refusal}
+use Rattle.format.specs.declared.Refusal.the-variants.{Range, Tree as TreeRefusal, Repeated, TooMany}
+use Rattle.theory_edges.specs.Edges.{Within}
+use Rattle.theory_edges.proofs.Edges.{among-cases}
 use Rattle.sheet_decode.specs.Step.{stepOf}
 use Rattle.sheet_decode.specs.declared.command.Step.the-variants.{Tree, Dominance, End, Refused as StepRefused}
-use Rattle.sheet_decode.specs.Turn.{Holds, Turned, treeAnswer, dominanceAnswer, ParentsAfter, HeadsAfter}
+use Rattle.base_tables.specs.Tables.{Holds}
+use Rattle.base_tables.proofs.Parents.{parent-tells}
+use Rattle.sheet_decode.specs.Turn.{Turned, treeAnswer, dominanceAnswer, ParentsAfter, HeadsAfter}
 use Rattle.sheet_decode.specs.declared.turn.Turn.{Turn}
 use Rattle.sheet_decode.specs.declared.turn.Turn.the-variants.{Next, Ended, Refused}
 use Rattle.sheet_decode.proofs.Steps.{taken, commands-step}
@@ -61,15 +64,6 @@ within-more n x y es e w u v a =
     (λ (q : (x ≡ u) × (y ≡ v)). (omega (arith, b .0, q .0), omega (arith, b .1, q .1)))
     (λ (m : among es u v ≡ true). w u v m)
     (among-cases (x, y) es u v a)
-
--- a parent table shows which nodes have one
-pub parent-tells : (n : ℕ) (t : List Edge) (v : ℕ) → n ≤ 128 → Within n t → entered t v ≡ not (eqb (parent t v) none)
-parent-tells n t v h w =
-    by-bool (entered t v)
-    (λ (e : entered t v ≡ true).
-    let b = w (parent t v) v (parent-among t v e) in
-    rw (e, ne-eqb (parent t v) none (λ q. omega (arith, b .0))))
-    (λ (e : entered t v ≡ false). rw (e, eq-eqb (parent t v) none (parent-unentered t v e)))
 
 module _ (n : ℕ) (t d : List Edge) (bs parents low high : List ℕ) (edges : ℕ) (few : n ≤ 128) (holds : Holds n t d parents low high edges) where
   tree-more : (p c : ℕ) → beyond n p c ≡ false → entered t c ≡ false → Holds n ((p, c) ∷ t) d (set parents c p) low high edges

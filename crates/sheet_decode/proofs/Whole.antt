@@ -1,4 +1,4 @@
--- A whole sheet: the first command by its bytes, and the answers of the walk and of the judge put together.
+-- A whole sheet: the first command by its bytes, and the answers of the run and of the judge put together.
 use Prim.Native.Nat.{ℕ, _≤_, _<_}
 use mathlib.Core.Path.{_≡_, refl, sym, _∙_}
 use mathlib.Core.List.{List, [], _∷_}
@@ -11,24 +11,25 @@ use Rattle.base_finite.proofs.Laws.{by-bool, and-both}
 use Rattle.base_finite.proofs.Stores.{zeros}
 use Rattle.base_nodeset.proofs.Laws.{member-zero}
 use Rattle.graph.specs.Graph.{Edge, among, single, parent}
-use Rattle.graph.specs.Sheet.{Outcome, refused, whole, commands, outcome}
-use Rattle.graph.specs.declared.Refusal.{Refusal}
-use Rattle.graph.specs.declared.Refusal.the-variants.{Missing, Command, Range}
-use Rattle.sheet_decode.proofs.Trees.{parent-node}
+use Rattle.format.specs.Sheet.{Outcome, refused, whole, commands, outcome}
+use Rattle.format.specs.declared.Refusal.{Refusal}
+use Rattle.format.specs.declared.Refusal.the-variants.{Missing, Command, Range}
 use Rattle.sheet_decode.proofs.Judges.{graphOf}
-use Rattle.sheet_decode.specs.Turn.{Holds}
-use Rattle.sheet_decode.specs.Run.{Walked}
-use Rattle.sheet_decode.specs.Judge.{Parents, Judged}
+use Rattle.base_tables.specs.Tables.{Holds}
+use Rattle.sheet_decode.specs.Run.{Ran}
+use Rattle.base_tables.specs.Trees.{Parents}
+use Rattle.base_tables.proofs.Parents.{parents-held}
+use Rattle.sheet_decode.specs.Judge.{Judged}
 use Rattle.sheet_decode.specs.Read.{headerOf, Blank, Decodes, Reads}
-use Rattle.sheet_decode.specs.declared.run.Walk.{Walk}
-use Rattle.sheet_decode.specs.declared.run.Walk.the-variants.{Ended, Refused as WalkRefused}
+use Rattle.sheet_decode.specs.declared.run.Run.{Run}
+use Rattle.sheet_decode.specs.declared.run.Run.the-variants.{Ended, Refused as RunRefused}
 use Rattle.sheet_decode.specs.declared.judge.Verdict.{Verdict}
 use Rattle.sheet_decode.specs.declared.judge.Verdict.the-variants.{Accepted, Refused as VerdictRefused}
 use Rattle.sheet_decode.specs.declared.read.Header.{Header}
 use Rattle.sheet_decode.specs.declared.read.Header.the-variants.{Nodes, Refused as HeaderRefused}
 use Rattle.sheet_decode.specs.declared.read.Answer.{Answer}
 use Rattle.sheet_decode.specs.declared.read.Decoded.{Decoded}
-use Rattle.sheet_decode.specs.declared.read.Decoded.the-variants.{Sheet, Refused}
+use Rattle.sheet_decode.specs.declared.read.Decoded.the-variants.{Filled, Refused}
 
 -- the first command
 
@@ -101,14 +102,6 @@ outcome-of-refusal s x why e f = outcome-headed s ∙ rw (← e, f)
 
 -- the tables
 
-pub parents-held : (n : ℕ) (t d : List Edge) (parents low high : List ℕ) (edges : ℕ) → n ≤ 128 → Holds n t d parents low high edges → Parents n parents
-parents-held n t d parents low high edges few h =
-    record {
-      few = few;
-      long = h .parents-long;
-      node-or-none = parent-node n t parents few (h .tree-within) (h .parent-is);
-    }
-
 pub blank : (m : ℕ) → m ≡ 128 → Blank (replicate m 255) (replicate m 0) (replicate m 0)
 unfolding parent single among
 blank m e n =
@@ -126,18 +119,18 @@ blank m e n =
 
 -- the answers put together
 
-module _ (n : ℕ) (bs parents low high : List ℕ) (w : Walk) (walked : Walked n bs w parents low high) where
+module _ (n : ℕ) (bs parents low high : List ℕ) (w : Run) (ran : Ran n bs w parents low high) where
   pub ended : (k : ℕ) → w ≡ Ended k
       → (t : List Edge) × (d : List Edge) × (commands n [] [] bs ≡ whole (graphOf n t d)) × Holds n t d parents low high k
-  unfolding Walked
-  ended k e = rw e at walked
+  unfolding Ran
+  ended k e = rw e at ran
 
   pub ended-parents : (k : ℕ) → n ≤ 128 → w ≡ Ended k → Parents n parents
   ended-parents k few e = let r = ended k e in parents-held n (r .0) (r .1) parents low high k few (r .3)
 
-  pub walk-refused : (why : Refusal) → w ≡ WalkRefused why → Decodes (commands n [] [] bs) (Refused why) parents low high
-  unfolding Decodes Walked
-  walk-refused why e = rw e at walked
+  pub run-refused : (why : Refusal) → w ≡ RunRefused why → Decodes (commands n [] [] bs) (Refused why) parents low high
+  unfolding Decodes Ran
+  run-refused why e = rw e at ran
 
   module _ (k : ℕ) (e : w ≡ Ended k) (v : Verdict) (judged : (t d : List Edge) (edges : ℕ) → Holds n t d parents low high edges → Judged n t d v) where
     pub judge-refused : (why : Refusal) → v ≡ VerdictRefused why → Decodes (commands n [] [] bs) (Refused why) parents low high
@@ -146,7 +139,7 @@ module _ (n : ℕ) (bs parents low high : List ℕ) (w : Walk) (walked : Walked 
         let r = ended k e in
         r .2 ∙ (rw f at (judged (r .0) (r .1) k (r .3)))
 
-    pub judge-accepted : v ≡ Accepted → Decodes (commands n [] [] bs) (Sheet n k) parents low high
+    pub judge-accepted : v ≡ Accepted → Decodes (commands n [] [] bs) (Filled n k) parents low high
     unfolding Decodes
     judge-accepted f =
         let r = ended k e in
@@ -159,7 +152,7 @@ unfolding Decodes
 reads-refused o x parents low high r why d e v = rw (rw e at d) v
 
 pub reads-accepted : (o : Outcome) (x : Decoded) (parents low high : List ℕ) (r : Answer) (n k : ℕ) → Decodes o x parents low high
-    → x ≡ Sheet n k → r .verdict ≡ Accepted → r .graph .n ≡ n → r .graph .parent ≡ parents → r .graph .low ≡ low → r .graph .high ≡ high → r .graph .edges ≡ k
+    → x ≡ Filled n k → r .verdict ≡ Accepted → r .graph .n ≡ n → r .graph .parent ≡ parents → r .graph .low ≡ low → r .graph .high ≡ high → r .graph .edges ≡ k
     → Reads o r
 unfolding Decodes
 reads-accepted o x parents low high r n k d e v en ep el eh ek =

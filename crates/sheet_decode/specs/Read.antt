@@ -4,16 +4,15 @@ use mathlib.Core.Path.{_≡_}
 use mathlib.Core.List.{List, [], _∷_}
 use mathlib.Core.Bool.{cond, _&&_}
 use lib.Dec.{eqb, leb}
-use lib.ListN.{drop}
 use Rattle.graph.specs.Graph as spec
-use Rattle.graph.specs.Sheet.{Outcome, refused, accepted, commands, outcome}
-use Rattle.graph.specs.declared.Refusal.the-variants.{Missing, Command, Range}
-use Rattle.sheet_decode.specs.Turn.{Holds}
+use Rattle.format.specs.Sheet.{Outcome, refused, accepted, commands, outcome}
+use Rattle.format.specs.declared.Refusal.the-variants.{Missing, Command, Range}
+use Rattle.base_tables.specs.Tables.{Holds}
 use Rattle.sheet_decode.specs.declared.judge.Verdict.the-variants.{Accepted, Refused as VerdictRefused}
 use Rattle.sheet_decode.specs.declared.read.Header.{Header}
 use Rattle.sheet_decode.specs.declared.read.Header.the-variants.{Nodes, Refused as HeaderRefused}
 use Rattle.sheet_decode.specs.declared.read.Decoded.{Decoded}
-use Rattle.sheet_decode.specs.declared.read.Decoded.the-variants.{Sheet, Refused}
+use Rattle.sheet_decode.specs.declared.read.Decoded.the-variants.{Filled, Refused}
 use Rattle.sheet_decode.specs.declared.read.Graph.{Graph}
 use Rattle.sheet_decode.specs.declared.read.Answer.{Answer}
 
@@ -30,7 +29,7 @@ Blank parents low high = (n : ℕ) → Holds n [] [] parents low high 0
 -- What decoding says of an outcome: its refusal, or that the tables hold the graph.
 unfoldable pub Decodes : Outcome → Decoded → List ℕ → List ℕ → List ℕ → Type 0
 Decodes o (Refused why) parents low high = o ≡ refused why
-Decodes o (Sheet n k) parents low high =
+Decodes o (Filled n k) parents low high =
     (g : spec.Graph) × (o ≡ accepted g) × (g .nodes ≡ n) × Holds n (g .tree) (g .dominance) parents low high k
 
 abbrev pub Spelt : ℕ → List ℕ → Decoded → List ℕ → List ℕ → List ℕ → Type 0

@@ -3,8 +3,8 @@ use Prim.Native.Nat.{ℕ}
 use mathlib.Core.List.{List, [], _∷_}
 use mathlib.Core.Bool.{cond}
 use lib.Dec.{eqb}
-use Rattle.graph.specs.declared.Refusal.the-variants.{Missing, Command}
-use Rattle.graph.specs.Sheet.{takesTwo}
+use Rattle.format.specs.declared.Refusal.the-variants.{Missing, Command}
+use Rattle.format.specs.Sheet.{takesTwo}
 use Rattle.sheet_decode.specs.declared.command.Step.{Step}
 use Rattle.sheet_decode.specs.declared.command.Step.the-variants.{Tree, Dominance, End, Refused}
 

@@ -1,33 +1,17 @@
 -- One command taken: the answer, and the tables that hold the edges read so far.
-use Prim.Native.Nat.{ℕ, _+_, _≤_, _<_}
+use Prim.Native.Nat.{ℕ, _+_, _≤_}
 use mathlib.Core.Path.{_≡_}
-use mathlib.Core.List.{List, [], _∷_}
-use mathlib.Core.Bool.{Bool, true, cond, not, _||_, _&&_}
+use mathlib.Core.List.{List}
+use mathlib.Core.Bool.{cond, not, _||_, _&&_}
 use lib.Dec.{eqb, leb}
-use lib.ListN.{length, getD, set, drop}
+use lib.ListN.{getD, set, drop}
 use Rattle.base_nodeset.specs.Set.{member}
-use Rattle.graph.specs.Graph.{Edge, Graph, among, single, parent, none}
-use Rattle.graph.specs.Sheet.{Outcome, refused, beyond, whole, commands}
-use Rattle.graph.specs.declared.Refusal.the-variants.{Range, Tree, Repeated, TooMany}
+use Rattle.graph.specs.Graph.{Edge, none}
+use Rattle.base_tables.specs.Tables.{Holds}
+use Rattle.format.specs.Sheet.{refused, beyond, whole, commands}
+use Rattle.format.specs.declared.Refusal.the-variants.{Range, Tree, Repeated, TooMany}
 use Rattle.sheet_decode.specs.declared.turn.Turn.{Turn}
 use Rattle.sheet_decode.specs.declared.turn.Turn.the-variants.{Next, Ended, Refused}
-
--- the edges are between numbers below n
-abbrev pub Within : ℕ → List Edge → Type 0
-Within n es = (u v : ℕ) → among es u v ≡ true → (u < n) × (v < n)
-
--- The tables of 128 entries hold the edges t and d: of each node its parent, of each leaf the set of roots that its
--- dominance edges go to, as two words, and how many dominance edges there are.
-pub record Holds (n : ℕ) (t d : List Edge) (parents low high : List ℕ) (edges : ℕ) : Type 0 where
-  pub tree-within : Within n t
-  pub one-parent : single t ≡ true
-  pub dominance-within : Within n d
-  pub parents-long : length parents ≡ 128
-  pub low-long : length low ≡ 128
-  pub high-long : length high ≡ 128
-  pub parent-is : (v : ℕ) → v < 128 → getD parents v 0 ≡ parent t v
-  pub heads-are : (l r : ℕ) → member (getD low l 0) (getD high l 0) r ≡ among d l r
-  pub edges-are : edges ≡ length d
 
 -- the tree edge from p to c: 3, then 4
 abbrev pub treeAnswer : ℕ → ℕ → ℕ → ℕ → List ℕ → Turn

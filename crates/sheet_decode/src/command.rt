@@ -1,5 +1,5 @@
 // One command of a sheet, after the first.
-use graph::Refusal;
+use format::Refusal;
 ghost use mathlib.Core.Path.{_≡_};
 ghost use lib.ListN.{drop};
 ghost use Rattle.sheet_decode.specs.Step.{stepOf, endOf};

@@ -1,14 +1,17 @@
 // What is tested after the last command: 4, 5, 6.
-use crate::NONE;
-use graph::Refusal;
 use base_nodeset::NodeSet;
+use base_tables::NONE;
+use base_tables::trees::inner_nodes;
+use base_tables::trees::root_nodes;
+use format::Refusal;
 ghost use mathlib.Core.Path.{_≡_};
 ghost use mathlib.Core.List.{List};
 ghost use Prim.Native.Nat.{ℕ, _≤_, _<_};
 ghost use lib.ListN.{length};
 ghost use Rattle.graph.specs.Graph.{Edge};
-ghost use Rattle.sheet_decode.specs.Turn.{Holds};
-ghost use Rattle.sheet_decode.specs.Judge.{Parents, InnerSet, RootSet, WithParent, WithRoot, risesIn, cyclicIn, strayIn, astrayIn, Judged};
+ghost use Rattle.base_tables.specs.Tables.{Holds};
+ghost use Rattle.base_tables.specs.Trees.{Parents};
+ghost use Rattle.sheet_decode.specs.Judge.{risesIn, cyclicIn, strayIn, astrayIn, Judged};
 
 pub enum Verdict {
     Accepted,
@@ -44,47 +47,6 @@ fn cyclic(parent: &[u8], n: usize) -> bool
         }
     }
     false
-}
-
-fn with_parent(set: NodeSet, above: u8) -> NodeSet
-    ensures { λ r. ⌜ WithParent set above r ⌝ }
-{
-    if above < 128 {
-        set.with(above as usize)
-    } else {
-        set
-    }
-}
-
-// The nodes that are some node's parent.
-pub fn inner_nodes(parent: &[u8], n: usize) -> NodeSet
-    requires { ⌜ Parents n (now parent) ⌝ }
-    ensures { λ r. ⌜ InnerSet n (now (parent .entry)) r ⌝ }
-{
-    let mut set = NodeSet::empty();
-    for v in 0..n {
-        set = with_parent(set, parent[v]);
-    }
-    set
-}
-
-fn with_root(set: NodeSet, v: usize, above: u8) -> NodeSet
-    requires { ⌜ v < 128 ⌝ }
-    ensures { λ r. ⌜ WithRoot set v above r ⌝ }
-{
-    if above == NONE { set.with(v) } else { set }
-}
-
-// The nodes without a parent.
-pub fn root_nodes(parent: &[u8], n: usize) -> NodeSet
-    requires { ⌜ Parents n (now parent) ⌝ }
-    ensures { λ r. ⌜ RootSet n (now (parent .entry)) r ⌝ }
-{
-    let mut set = NodeSet::empty();
-    for v in 0..n {
-        set = with_root(set, v, parent[v]);
-    }
-    set
 }
 
 // Some dominance edge from l doesn't go from a leaf to a root.

@@ -5,6 +5,3 @@ pub mod read;
 pub mod reader;
 mod run;
 mod turn;
-
-// What stands for the parent of a root.
-pub const NONE: u8 = 255;

@@ -1,16 +1,16 @@
 // A whole sheet: the graph that it spells, or its refusal.
-use crate::NONE;
 use crate::judge::Verdict;
 use crate::judge::judge;
-use crate::run::Walk;
+use crate::run::Run;
 use crate::run::commands;
-use graph::Refusal;
+use base_tables::NONE;
+use format::Refusal;
 ghost use mathlib.Core.Path.{_≡_};
 ghost use mathlib.Core.List.{[]};
-ghost use Prim.Native.Nat.{ℕ, _≤_};
-ghost use lib.ListN.{length, drop};
-ghost use Rattle.graph.specs.Sheet.{outcome};
-ghost use Rattle.sheet_decode.specs.Turn.{Holds};
+ghost use Prim.Native.Nat.{_≤_};
+ghost use lib.ListN.{drop};
+ghost use Rattle.format.specs.Sheet.{outcome};
+ghost use Rattle.base_tables.specs.Tables.{Holds};
 ghost use Rattle.sheet_decode.specs.Read.{headerOf, Blank, Spelt, Decoding, Reads};
 
 pub enum Header {
@@ -20,7 +20,7 @@ pub enum Header {
 
 pub enum Decoded {
     // The number of nodes and of dominance edges.
-    Sheet(usize, usize),
+    Filled(usize, usize),
     Refused(Refusal),
 }
 
@@ -69,10 +69,10 @@ fn body(sheet: &[u8], n: usize, parent: &mut [u8], low: &mut [u64], high: &mut [
     ensures { λ x. ⌜ Spelt n (drop 2 (now (sheet .entry))) x (now (parent .exit)) (now (low .exit)) (now (high .exit)) ⌝ }
 {
     match commands(sheet, n, parent, low, high) {
-        Walk::Refused(why) => Decoded::Refused(why),
-        Walk::Ended(edges) => match judge(n, parent, low, high) {
+        Run::Refused(why) => Decoded::Refused(why),
+        Run::Ended(edges) => match judge(n, parent, low, high) {
             Verdict::Refused(why) => Decoded::Refused(why),
-            Verdict::Accepted => Decoded::Sheet(n, edges),
+            Verdict::Accepted => Decoded::Filled(n, edges),
         },
     }
 }
@@ -105,7 +105,7 @@ pub fn read(sheet: &[u8]) -> Answer
                 edges: 0,
             },
         },
-        Decoded::Sheet(n, edges) => Answer {
+        Decoded::Filled(n, edges) => Answer {
             verdict: Verdict::Accepted,
             graph: Graph {
                 n,

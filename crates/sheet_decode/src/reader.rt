@@ -25,7 +25,7 @@ impl<'a> Reader<'a> {
     }
 }
 
-// The command at `at`, through a reader. Its parameters are plain: who calls it is proved with no walk by hand.
+// The command at `at`, through a reader. Its parameters are plain: who calls it is proved without a hand proof.
 pub fn command(sheet: &[u8], at: usize) -> Step
     ensures { λ r. ⌜ r ≡ stepOf (drop at (now (sheet .entry))) ⌝ }
 {

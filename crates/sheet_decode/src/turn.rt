@@ -1,15 +1,16 @@
 // One command taken: its edge goes into the tables, or its refusal comes out.
-use crate::NONE;
 use crate::command::Step;
 use crate::reader::command;
-use graph::Refusal;
 use base_nodeset::NodeSet;
+use base_tables::NONE;
+use format::Refusal;
 ghost use mathlib.Core.Path.{_≡_};
 ghost use mathlib.Core.List.{List};
-ghost use Prim.Native.Nat.{ℕ, _≤_, _<_};
+ghost use Prim.Native.Nat.{_≤_, _<_};
 ghost use lib.ListN.{length, drop};
 ghost use Rattle.graph.specs.Graph.{Edge};
-ghost use Rattle.sheet_decode.specs.Turn.{Holds, Turned, Advanced, treeAnswer, dominanceAnswer, ParentsAfter, HeadsAfter};
+ghost use Rattle.base_tables.specs.Tables.{Holds};
+ghost use Rattle.sheet_decode.specs.Turn.{Turned, Advanced, treeAnswer, dominanceAnswer, ParentsAfter, HeadsAfter};
 
 pub enum Turn {
     // The number of dominance edges so far.

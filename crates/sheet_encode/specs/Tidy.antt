@@ -9,9 +9,9 @@ use Rattle.base_finite.specs.Below.{count, spread}
 use Rattle.base_nodeset.specs.Set.{mem}
 use Rattle.base_nodeset.specs.declared.NodeSet.{NodeSet}
 use Rattle.graph.specs.Graph as spec
-use Rattle.graph.specs.Sheet.{Outcome, refused, accepted, tidy}
-use Rattle.graph.specs.declared.Refusal.the-variants.{SmallBuffer}
-use Rattle.sheet_decode.specs.Turn.{Holds}
+use Rattle.format.specs.Sheet.{Outcome, refused, accepted, tidy}
+use Rattle.format.specs.declared.Refusal.the-variants.{SmallBuffer}
+use Rattle.base_tables.specs.Tables.{Holds}
 use Rattle.sheet_encode.specs.declared.Tidied.{Tidied}
 use Rattle.sheet_encode.specs.declared.Tidied.the-variants.{Length, Refused}
 
@@ -43,7 +43,7 @@ unfoldable pub treesIn : ℕ → List ℕ → ℕ
 treesIn n parents = count n (λ c. not (eqb (getD parents c 0) spec.none))
 
 -- the tables of a well-formed graph
-pub record Held (n : ℕ) (parents low high : List ℕ) (edges : ℕ) : Type 0 where
+pub record TidyTables (n : ℕ) (parents low high : List ℕ) (edges : ℕ) : Type 0 where
   pub graph : spec.Graph
   pub well-formed : spec.WellFormed graph
   pub nodes : n ≡ graph .nodes

@@ -1,7 +1,7 @@
 // Tidying: the sheet of the same graph with its commands in the tidy order.
-use graph::Refusal;
 use base_nodeset::NodeSet;
-use sheet_decode::NONE;
+use base_tables::NONE;
+use format::Refusal;
 use sheet_decode::judge::Verdict;
 use sheet_decode::read::read;
 ghost use mathlib.Core.Path.{_≡_};
@@ -10,10 +10,10 @@ ghost use mathlib.Core.List.{[], _∷_};
 ghost use lib.ListN.{length};
 ghost use lib.Seq.{sets};
 ghost use Rattle.base_finite.specs.Below.{count};
-ghost use Rattle.sheet_decode.specs.Judge.{Parents};
-ghost use Rattle.graph.specs.Sheet.{outcome};
+ghost use Rattle.base_tables.specs.Trees.{Parents};
+ghost use Rattle.format.specs.Sheet.{outcome};
 ghost use Rattle.base_finite.specs.Stores.{Written};
-ghost use Rattle.sheet_encode.specs.Tidy.{treeBytes, treesIn, rowBytes, treePart, dominancePart, moreTrees, Held, TidiesTo, Tidies};
+ghost use Rattle.sheet_encode.specs.Tidy.{treeBytes, treesIn, rowBytes, treePart, dominancePart, moreTrees, TidyTables, TidiesTo, Tidies};
 
 pub enum Tidied {
     // How many bytes were filled.
@@ -104,9 +104,9 @@ fn tree_edges(parent: &[u8], n: usize) -> usize
 
 // The tidy sheet of the graph in these tables.
 fn write(n: usize, parent: &[u8], low: &[u64], high: &[u64], edges: usize, out: &mut [u8]) -> Tidied
-    requires { ⌜ Held n (now parent) (now low) (now high) edges ⌝ }
+    requires { ⌜ TidyTables n (now parent) (now low) (now high) edges ⌝ }
     ensures { λ r. ⌜
-        ((h : Held n (now (parent .entry)) (now (low .entry)) (now (high .entry)) edges) → TidiesTo (h .graph) r (now (out .entry)) (now (out .exit)))
+        ((h : TidyTables n (now (parent .entry)) (now (low .entry)) (now (high .entry)) edges) → TidiesTo (h .graph) r (now (out .entry)) (now (out .exit)))
         ⌝ }
 {
     let needed = 3 + 3 * tree_edges(parent, n) + 3 * edges;

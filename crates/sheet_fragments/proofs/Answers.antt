@@ -2,14 +2,14 @@
 use Prim.Native.Nat.{ℕ}
 use mathlib.Core.Path.{_≡_, refl}
 use mathlib.Core.List.{List}
-use Rattle.graph.specs.Sheet.{outcome}
-use Rattle.graph.specs.declared.Refusal.{Refusal}
-use Rattle.sheet_decode.specs.Judge.{Parents}
+use Rattle.format.specs.Sheet.{outcome}
+use Rattle.format.specs.declared.Refusal.{Refusal}
+use Rattle.base_tables.specs.Trees.{Parents}
 use Rattle.sheet_decode.specs.Read.{Reads}
 use Rattle.sheet_decode.specs.declared.judge.Verdict.the-variants.{Accepted, Refused as VerdictRefused}
 use Rattle.sheet_decode.specs.declared.read.Answer.{Answer}
-use Rattle.rows.proofs.Answers.{answered-refused, answered-accepted}
-use Rattle.trees.proofs.Held.{tables-parents}
+use Rattle.sheet_decode.proofs.Answers.{answered-refused, answered-accepted}
+use Rattle.base_tables.proofs.TreeLaws.{tables-parents}
 use Rattle.sheet_fragments.specs.Table.{TableIn, Tabled}
 use Rattle.sheet_fragments.specs.declared.Table.{Table}
 use Rattle.sheet_fragments.specs.declared.Table.the-variants.{Refused}

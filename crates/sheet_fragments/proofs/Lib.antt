@@ -1,4 +1,4 @@
 pub mod Owned
-pub mod Held
+pub mod GraphRecords
 pub mod Answers
 pub mod Storing

@@ -13,18 +13,18 @@ use Rattle.base_finite.proofs.Laws.{by-bool, count-le}
 use Rattle.base_finite.proofs.Counting.{length-entries, entry-at}
 use Rattle.base_finite.proofs.Runs.{sets-append}
 use Rattle.graph.specs.Graph.{Graph, root}
-use Rattle.graph.specs.Sheet.{Outcome, refused, accepted, outcome}
+use Rattle.format.specs.Sheet.{Outcome, refused, accepted, outcome}
 use Rattle.graph.specs.Table.{fragments}
 use Rattle.graph.specs.declared.Fragment.{Fragment}
-use Rattle.graph.specs.declared.Refusal.{Refusal}
-use Rattle.graph.specs.declared.Refusal.the-variants.{SmallBuffer}
+use Rattle.format.specs.declared.Refusal.{Refusal}
+use Rattle.format.specs.declared.Refusal.the-variants.{SmallBuffer}
 use Rattle.theory_format.proofs.Spelling.{accepted-well-formed}
 use Rattle.sheet_fragments.specs.Table.{flat, Tabled}
 use Rattle.sheet_fragments.specs.Records.{recordAt, recordsIn, recordsOf, stored, Prepares, Recorded}
 use Rattle.sheet_fragments.specs.declared.Table.{Table}
 use Rattle.sheet_fragments.specs.declared.Table.the-variants.{Filled, Refused}
 use Rattle.sheet_fragments.specs.declared.records.Records.{Records}
-use Rattle.sheet_fragments.proofs.Held.{fragments-length}
+use Rattle.sheet_fragments.proofs.GraphRecords.{fragments-length}
 
 -- what the bytes hold
 

@@ -6,10 +6,10 @@ use mathlib.Core.Bool.{cond}
 use lib.Dec.{ltb}
 use lib.ListN.{length, drop, getD}
 use Rattle.base_finite.specs.Below.{spread}
-use Rattle.graph.specs.Sheet.{Outcome, refused, accepted}
+use Rattle.format.specs.Sheet.{Outcome, refused, accepted}
 use Rattle.graph.specs.Table.{fragments}
 use Rattle.graph.specs.declared.Fragment.{Fragment}
-use Rattle.graph.specs.declared.Refusal.the-variants.{SmallBuffer}
+use Rattle.format.specs.declared.Refusal.the-variants.{SmallBuffer}
 use Rattle.sheet_fragments.specs.declared.Table.{Table}
 use Rattle.sheet_fragments.specs.declared.Table.the-variants.{Filled, Refused}
 use Rattle.sheet_fragments.specs.declared.records.Records.{Records}

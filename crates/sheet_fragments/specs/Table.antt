@@ -6,11 +6,11 @@ use mathlib.Core.Bool.{cond}
 use lib.Dec.{ltb}
 use lib.ListN.{length, drop}
 use Rattle.graph.specs.Graph.{Graph}
-use Rattle.graph.specs.Sheet.{Outcome, refused, accepted}
+use Rattle.format.specs.Sheet.{Outcome, refused, accepted}
 use Rattle.graph.specs.Table.{fragments}
 use Rattle.graph.specs.declared.Fragment.{Fragment}
-use Rattle.graph.specs.declared.Refusal.the-variants.{SmallBuffer}
-use Rattle.rows.specs.Rows.{Tables}
+use Rattle.format.specs.declared.Refusal.the-variants.{SmallBuffer}
+use Rattle.base_tables.specs.Tables.{Tables}
 use Rattle.sheet_fragments.specs.declared.Table.{Table}
 use Rattle.sheet_fragments.specs.declared.Table.the-variants.{Filled, Refused}
 

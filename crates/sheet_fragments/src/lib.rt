@@ -1,21 +1,21 @@
 // The fragment table of a sheet.
 pub mod records;
 
-use graph::Refusal;
 use base_nodeset::NodeSet;
+use base_tables::trees::inner_nodes;
+use base_tables::trees::owners;
+use base_tables::trees::root_nodes;
+use format::Refusal;
 use sheet_decode::judge::Verdict;
-use sheet_decode::judge::inner_nodes;
-use sheet_decode::judge::root_nodes;
 use sheet_decode::read::read;
-use trees::owners;
 ghost use mathlib.Core.Path.{_≡_};
 ghost use Prim.Native.Nat.{_+_, _*_, _≤_, _<_};
 ghost use lib.ListN.{length};
 ghost use lib.Seq.{sets};
 ghost use Rattle.base_finite.specs.Below.{count};
 ghost use Rattle.base_nodeset.specs.Set.{mem};
-ghost use Rattle.graph.specs.Sheet.{outcome};
-ghost use Rattle.sheet_decode.specs.Judge.{Parents};
+ghost use Rattle.format.specs.Sheet.{outcome};
+ghost use Rattle.base_tables.specs.Trees.{Parents};
 ghost use Rattle.sheet_fragments.specs.Owner.{WithNode, NodesOf, recordIn, recordsIn};
 ghost use Rattle.sheet_fragments.specs.Table.{TableIn, Tabled};
 

@@ -1,11 +1,11 @@
 // The records of a sheet, worked out for a lent table: what is left to its filler is one store a record.
 use crate::Table;
 use crate::fragment_table;
+use format::Refusal;
 use graph::Fragment;
-use graph::Refusal;
 ghost use mathlib.Core.Path.{_≡_};
 ghost use Prim.Native.Nat.{_<_};
-ghost use Rattle.graph.specs.Sheet.{outcome};
+ghost use Rattle.format.specs.Sheet.{outcome};
 ghost use Rattle.sheet_fragments.specs.Records.{recordAt, Prepares};
 
 // The answer, and how many records go into the table. Three bytes a record; no sheet has more fragments than nodes.

@@ -15,11 +15,12 @@ use Rattle.base_finite.specs.Below.{any, count, spread}
 use Rattle.base_finite.proofs.Laws.{by-bool, and-both, or-false, any-found, count-ext, count-le, not-holding}
 use Rattle.graph.specs.Graph.{Graph, root, leaf, leafOf, none, TreeEdge, Path}
 use Rattle.graph.specs.Placing.{at, hangs, PlacingEdge, Below, Forest, SolvedForm}
-use Rattle.graph.specs.Drawing.{leafText, fragmentText, drawing}
-use Rattle.theory_format.proofs.Spelling.{leaf-below, root-below}
-use Rattle.theory_forest.proofs.Shape.{Shaped}
+use Rattle.format.specs.Drawing.{leafText, fragmentText, drawing}
+use Rattle.theory_edges.proofs.Ends.{leaf-below, root-below}
+use Rattle.theory_forest.specs.Shape.{Shaped}
 use Rattle.theory_forest.proofs.Closure.{path-trans}
-use Rattle.theory_forest.proofs.Table.{under, under-iff, or-holds, eqb-holds, hangs-parts}
+use Rattle.theory_forest.specs.Table.{under}
+use Rattle.theory_forest.proofs.Table.{under-iff, or-holds, eqb-holds, hangs-parts}
 use Rattle.theory_forest.proofs.Fragments.{leaf-below-own, leafOf-parts}
 use Rattle.theory_forest.proofs.Forests.{AtOrAbove, Comparable, above-parent, chain, asymmetric, irreflexive-path, tree-below, hung-below, leaf-not-above-own, hangs-where-below}
 use Rattle.base_finite.proofs.Counting.{count-grows}

@@ -2,4 +2,4 @@ pub mod Texts
 pub mod Loops
 pub mod Runs
 pub mod Bound
-pub mod Held
+pub mod GraphDrawn

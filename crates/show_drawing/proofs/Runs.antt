@@ -8,10 +8,10 @@ use Rattle.base_finite.specs.Below.{any, spread, select}
 use Rattle.base_finite.proofs.Laws.{by-bool, or-none, or-right, or-false, any-at}
 use Rattle.graph.specs.Graph.{Graph, root, leafOf, none}
 use Rattle.graph.specs.Placing.{at, hangs}
-use Rattle.graph.specs.Drawing.{separated, leafText, fragmentText, drawing}
-use Rattle.graph.specs.Text.{decimal}
-use Rattle.theory_format.proofs.Spelling.{leaf-below}
-use Rattle.theory_forest.proofs.Shape.{Shaped}
+use Rattle.format.specs.Drawing.{separated, leafText, fragmentText, drawing}
+use Rattle.format.specs.Text.{decimal}
+use Rattle.theory_edges.proofs.Ends.{leaf-below}
+use Rattle.theory_forest.specs.Shape.{Shaped}
 use Rattle.theory_forest.proofs.Fragments.{root-leaf, leafOf-parts}
 use Rattle.show_drawing.specs.Drawn.{run}
 

@@ -9,10 +9,9 @@ use Rattle.base_finite.specs.Below.{any, spread}
 use Rattle.base_finite.proofs.Laws.{by-bool, or-none, any-found, spread-more}
 use Rattle.base_finite.proofs.Runs.{spread-longer}
 use Rattle.graph.specs.Graph.{none}
-use Rattle.graph.specs.Text.{decimal}
+use Rattle.format.specs.Text.{decimal}
 use Rattle.base_text.proofs.Digits.{decimal-some, decimal-three}
-use Rattle.sheet_decode.specs.Judge.{innerIn}
-use Rattle.trees.specs.Trees.{topIn}
+use Rattle.base_tables.specs.Trees.{innerIn, topIn}
 use Rattle.show_drawing.specs.Drawn.{run, homeIn, leafIn, fragmentIn, leavesIn, hungAt}
 
 -- runs

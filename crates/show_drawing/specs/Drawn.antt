@@ -8,10 +8,9 @@ use lib.ListN.{length, getD, take, drop}
 use Rattle.base_finite.specs.Below.{any, spread}
 use Rattle.graph.specs.Graph as spec
 use Rattle.graph.specs.Placing.{SolvedForm}
-use Rattle.graph.specs.Text.{decimal}
-use Rattle.rows.specs.Rows.{Tables}
-use Rattle.trees.specs.Trees.{topIn}
-use Rattle.sheet_decode.specs.Judge.{innerIn}
+use Rattle.format.specs.Text.{decimal}
+use Rattle.base_tables.specs.Tables.{Tables}
+use Rattle.base_tables.specs.Trees.{topIn, innerIn}
 
 -- the texts of the numbers below k that have t, o before the first and b before each other
 unfoldable pub run : List ℕ → List ℕ → (ℕ → List ℕ) → (ℕ → Bool) → ℕ → List ℕ

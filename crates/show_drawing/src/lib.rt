@@ -1,17 +1,17 @@
 // The drawing of a placing: each fragment writes its leaves in turn, and each leaf the fragments hung under it.
 use base_nodeset::NodeSet;
-use sheet_decode::NONE;
-use sheet_decode::judge::inner_nodes;
-use trees::own;
+use base_tables::NONE;
+use base_tables::trees::inner_nodes;
+use base_tables::trees::own;
 ghost use mathlib.Core.Path.{_≡_};
 ghost use Prim.Native.Nat.{_+_, _≤_, _<_};
 ghost use mathlib.Core.Bool.{_&&_};
 ghost use lib.Dec.{eqb};
 ghost use lib.ListN.{length, take};
 ghost use Rattle.base_finite.specs.Stores.{Written};
-ghost use Rattle.graph.specs.Drawing.{drawing};
-ghost use Rattle.graph.specs.Text.{decimal};
-ghost use Rattle.sheet_decode.specs.Judge.{Parents, InnerSet};
+ghost use Rattle.format.specs.Drawing.{drawing};
+ghost use Rattle.format.specs.Text.{decimal};
+ghost use Rattle.base_tables.specs.Trees.{Parents, InnerSet};
 ghost use Rattle.show_drawing.specs.Drawn.{homeIn, Homes, hungLeafIn, fragmentIn, topsIn, joint, Lent, Drawable, Drawn};
 
 // The root of v's fragment, where v is a leaf.

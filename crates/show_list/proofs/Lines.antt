@@ -16,21 +16,21 @@ use Rattle.base_nodeset.specs.declared.NodeSet.{NodeSet}
 use Rattle.graph.specs.Graph.{Graph, root, none}
 use Rattle.graph.specs.Placing.{at}
 use Rattle.graph.specs.Order.{entry, limit, countAnswer}
-use Rattle.graph.specs.Text.{decimal, line, countLine, readingLine, numbered, printed}
-use Rattle.theory_list.proofs.Readings.{listed}
-use Rattle.theory_list.proofs.Settled.{settled}
-use Rattle.solve_reduce.specs.Reduced.{RootsAre, Given}
+use Rattle.format.specs.Text.{decimal, line, countLine, readingLine, numbered, printed}
+use Rattle.theory_list.specs.Readings.{listed}
+use Rattle.theory_list.specs.Settled.{settled}
+use Rattle.solve_reduce.specs.Reduced.{RootsAre, LooplessForm}
 use Rattle.base_text.specs.Lines.{lineIn}
 use Rattle.base_text.proofs.Lines.{line-is}
 use Rattle.theory_walk.specs.Walk.{Decision, graphAt}
 use Rattle.theory_walk.proofs.Decisions.{graph-nodes, graph-root}
 use Rattle.theory_walk.proofs.States.{at-below, at-entry}
 use Rattle.solve_branch.specs.Decisions.{decisions}
-use Rattle.solve_branch.specs.Given.{Fits}
+use Rattle.solve_branch.specs.Fits.{Fits}
 use Rattle.solve_branch.specs.States.{Stands}
 use Rattle.solve_branch.proofs.Fitting.{fits-at}
 use Rattle.solve_branch.proofs.Walks.{stands-given}
-use Rattle.numbered.specs.Numbered.{joined}
+use Rattle.solve_numbered.specs.Numbered.{joined}
 use Rattle.show_list.specs.Pages.{linesTo}
 
 -- one line more
@@ -69,7 +69,7 @@ written-to old from bs new end h w =
 
 module _ {g : Graph} {n : ℕ} {parents owners : List ℕ} {roots : NodeSet} (f : Fits g n parents owners roots) {uppers lowers low high : List ℕ} {depth last : ℕ} (x : Stands g uppers lowers low high depth last) where
   pub line-written : (passed : ℕ) (old : List ℕ) (from : ℕ) (new : List ℕ) (end : ℕ) → end ≤ length old
-      → ((h : Graph) → RootsAre h n roots → Given h n low high → Written old from (readingLine h (last + 1) (settled h)) new end)
+      → ((h : Graph) → RootsAre h n roots → LooplessForm h n low high → Written old from (readingLine h (last + 1) (settled h)) new end)
       → linesTo g passed ++ take from old ≡ linesTo g last → linesTo g passed ++ take end new ≡ linesTo g (last + 1)
   line-written passed old from new end h wrote before =
       let ds : List Decision = decisions uppers lowers depth in

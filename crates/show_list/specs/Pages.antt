@@ -6,10 +6,10 @@ use mathlib.Core.Bool.{true, false}
 use lib.ListN.{length, take}
 use Rattle.graph.specs.Graph.{Graph}
 use Rattle.graph.specs.Order.{limit}
-use Rattle.graph.specs.Text.{numbered}
-use Rattle.theory_list.proofs.Readings.{listed}
+use Rattle.format.specs.Text.{numbered}
+use Rattle.theory_list.specs.Readings.{listed}
 use Rattle.solve_branch.specs.States.{Stands}
-use Rattle.numbered.specs.Numbered.{joined}
+use Rattle.solve_numbered.specs.Numbered.{joined}
 use Rattle.show_list.specs.declared.Page.{Page}
 
 -- the lines of the readings up to the number k

@@ -1,10 +1,10 @@
 // The lines of the readings, a page at a time. One walk goes from the first reading to the last: a page goes on where the
 // one before it stopped.
-use solve_reduce::settle::settle;
 use base_nodeset::NodeSet;
-use numbered::LAST;
 use base_text::LINE;
 use base_text::reading_line;
+use solve_numbered::LAST;
+use solve_reduce::settle::settle;
 use solve_walk::steps::Moved;
 use solve_walk::steps::next;
 ghost use mathlib.Core.Path.{_≡_};
@@ -14,11 +14,11 @@ ghost use lib.ListN.{length};
 ghost use Rattle.base_finite.specs.Stores.{Written};
 ghost use Rattle.graph.specs.Graph.{Graph};
 ghost use Rattle.graph.specs.Order.{limit};
-ghost use Rattle.graph.specs.Text.{readingLine};
-ghost use Rattle.theory_list.proofs.Settled.{settled};
-ghost use Rattle.solve_reduce.specs.Reduced.{Wide, RootsAre, Given};
+ghost use Rattle.format.specs.Text.{readingLine};
+ghost use Rattle.theory_list.specs.Settled.{settled};
+ghost use Rattle.solve_reduce.specs.Reduced.{Wide, RootsAre, LooplessForm};
 ghost use Rattle.solve_branch.specs.Decisions.{Room};
-ghost use Rattle.solve_branch.specs.Given.{Fits};
+ghost use Rattle.solve_branch.specs.Fits.{Fits};
 ghost use Rattle.solve_branch.specs.Levels.{Saved};
 ghost use Rattle.solve_branch.specs.States.{Stands};
 ghost use Rattle.solve_walk.specs.States.{Standing};
@@ -45,7 +45,7 @@ fn line(
     requires { ⌜ Wide (now low) (now high) × (n ≤ 128) × (at + 1100 ≤ length (now out)) ⌝ }
     ensures { λ r. ⌜ r ≤ length (now (out .entry)) ⌝ }
     ensures { λ r. ⌜
-        ((g : Graph) → RootsAre g n roots → Given g n (now (low .entry)) (now (high .entry)) →
+        ((g : Graph) → RootsAre g n roots → LooplessForm g n (now (low .entry)) (now (high .entry)) →
         Written (now (out .entry)) at (readingLine g k (settled g)) (now (out .exit)) r)
         ⌝ }
 {

@@ -15,13 +15,14 @@ use Rattle.base_nodeset.specs.declared.NodeSet.{NodeSet}
 use Rattle.graph.specs.Graph.{Graph, Descent, own}
 use Rattle.graph.specs.Order.{Choice, adding}
 use Rattle.graph.specs.Placing.{Solvable}
-use Rattle.theory_forest.proofs.Shape.{Shaped}
-use Rattle.theory_list.proofs.Redundancy.{Loopless}
-use Rattle.theory_list.proofs.Choosing.{Unforked}
+use Rattle.theory_forest.specs.Shape.{Shaped}
+use Rattle.theory_list.specs.Redundancy.{Loopless}
+use Rattle.theory_list.specs.Choosing.{Unforked}
 use Rattle.theory_list.proofs.Keeping.{closes}
-use Rattle.theory_list.proofs.Settled.{settled, settled-solved}
-use Rattle.rows.specs.Rows.{inRow}
-use Rattle.solve_reduce.specs.Reduced.{Given}
+use Rattle.theory_list.specs.Settled.{settled}
+use Rattle.theory_list.proofs.Settled.{settled-solved}
+use Rattle.base_tables.specs.Rows.{inRow}
+use Rattle.solve_reduce.specs.Reduced.{LooplessForm}
 use Rattle.solve_reduce.specs.Chosen.{Chosen}
 use Rattle.solve_reduce.specs.declared.choose.Fork.{Fork}
 use Rattle.solve_reduce.specs.declared.choose.Fork.the-variants.{None, At}
@@ -30,7 +31,7 @@ use Rattle.theory_walk.proofs.Halves.{solvable-loopless, half-solvable, half-sh
 use Rattle.theory_walk.proofs.Decisions.{graph-pushed, graph-nodes, graph-shaped, valid-popped}
 use Rattle.theory_walk.proofs.States.{entering-first, leaving-turned}
 use Rattle.solve_branch.specs.Decisions.{decisions, Kept}
-use Rattle.solve_branch.specs.Given.{Reduction, Owned}
+use Rattle.solve_branch.specs.Fits.{Reduction, Owned}
 use Rattle.solve_branch.specs.States.{Stands, Diving}
 use Rattle.solve_branch.specs.Dives.{Back}
 use Rattle.solve_branch.specs.declared.dive.Dived.{Dived}
@@ -72,7 +73,7 @@ module _ {g : Graph} {n : ℕ} {owners : List ℕ} {roots : NodeSet} {uppers low
     pub loopless : Loopless (graphAt g (decisions uppers lowers depth))
     loopless u x = true≢false (sym (d .reduction .under latest latest (omega (arith, same-nodes)) .1 (d .cycle u x)) ∙ free)
 
-    pub diving-given : Given (graphAt g (decisions uppers lowers depth)) n low high
+    pub diving-given : LooplessForm (graphAt g (decisions uppers lowers depth)) n low high
     diving-given = record { shaped = d .shaped; loopless = loopless; nodes = same-nodes; reduced = reduction-at same-nodes (d .reduction) }
 
     -- where no choice is left

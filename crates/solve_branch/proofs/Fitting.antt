@@ -12,18 +12,19 @@ use Rattle.base_nodeset.specs.declared.NodeSet.{NodeSet}
 use Rattle.graph.specs.Graph.{Edge, Graph, own, parent}
 use Rattle.graph.specs.Order.{Choice, adding}
 use Rattle.graph.specs.Placing.{Solvable}
-use Rattle.theory_format.proofs.Spelling.{leaf-below, root-below}
+use Rattle.theory_edges.proofs.Ends.{leaf-below, root-below}
 use Rattle.theory_forest.proofs.Fragments.{own-within}
-use Rattle.theory_forest.proofs.Shape.{Shaped}
+use Rattle.theory_forest.specs.Shape.{Shaped}
 use Rattle.theory_list.proofs.Choosing.{lower-leaf, upper-leaf}
-use Rattle.theory_list.proofs.Keeping.{Fresh, first-fresh, second-fresh}
-use Rattle.trees.specs.Trees.{TreeOf}
+use Rattle.theory_list.specs.Keeping.{Fresh}
+use Rattle.theory_list.proofs.Keeping.{first-fresh, second-fresh}
+use Rattle.base_tables.specs.Trees.{TreeOf}
 use Rattle.solve_reduce.specs.Reduced.{RootsAre, Reduced}
 use Rattle.theory_walk.specs.Walk.{Decision, first, second, half, graphAt, Valid}
 use Rattle.theory_walk.proofs.Halves.{half-nodes, half-tree, half-shaped}
 use Rattle.theory_walk.proofs.Decisions.{graph-nodes, graph-tree, graph-own, graph-root, graph-shaped, few-decisions, Last, valid-popped}
 use Rattle.solve_branch.specs.Decisions.{decision, decisions, Within, Room}
-use Rattle.solve_branch.specs.Given.{Reduction, Owners, Owned, Fits}
+use Rattle.solve_branch.specs.Fits.{Reduction, Owners, Owned, Fits}
 use Rattle.solve_branch.specs.States.{Turned}
 use Rattle.solve_branch.proofs.Tables.{decision-first, decisions-none, decisions-more, decisions-length, graph-more, valid-fewer}
 

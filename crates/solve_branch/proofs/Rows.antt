@@ -11,10 +11,10 @@ use Rattle.base_finite.proofs.Laws.{by-bool}
 use Rattle.base_finite.proofs.Stores.{Filled, zeros}
 use Rattle.base_nodeset.proofs.Laws.{member-zero}
 use Rattle.graph.specs.Graph.{Graph, Descent}
-use Rattle.theory_forest.proofs.Shape.{Shaped}
+use Rattle.theory_forest.specs.Shape.{Shaped}
 use Rattle.theory_forest.proofs.Table.{descent-within}
-use Rattle.rows.specs.Rows.{inRow, Rows}
-use Rattle.solve_branch.specs.Given.{Reduction}
+use Rattle.base_tables.specs.Rows.{inRow, Rows}
+use Rattle.solve_branch.specs.Fits.{Reduction}
 
 pub rows-of : (g : Graph) → Shaped g → (n : ℕ) → n ≡ g .nodes → (low high rows-low rows-high : List ℕ) → length rows-low ≡ 128 → length rows-high ≡ 128
     → Filled (λ (i : ℕ). getD low i 0) n (replicate 128 0) rows-low → Filled (λ (i : ℕ). getD high i 0) n (replicate 128 0) rows-high → Reduction g low high → Rows (Descent g) rows-low rows-high

@@ -13,7 +13,7 @@ use Rattle.base_finite.proofs.Laws.{by-bool}
 use Rattle.graph.specs.Graph.{Graph}
 use Rattle.theory_walk.specs.Walk.{Decision, graphAt}
 use Rattle.solve_branch.specs.Decisions.{decisions, Kept}
-use Rattle.solve_branch.specs.Given.{Reduction}
+use Rattle.solve_branch.specs.Fits.{Reduction}
 use Rattle.solve_branch.specs.Levels.{level, Levels, Saved}
 use Rattle.solve_branch.proofs.Tables.{decisions-same}
 use Rattle.solve_branch.proofs.Dives.{kept-all, kept-set}

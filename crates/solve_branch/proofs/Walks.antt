@@ -9,12 +9,12 @@ use Rattle.base_nodeset.specs.declared.NodeSet.{NodeSet}
 use Rattle.graph.specs.Graph.{Graph}
 use Rattle.graph.specs.Order.{Choice, entry}
 use Rattle.graph.specs.Placing.{Solvable}
-use Rattle.theory_forest.proofs.Shape.{Shaped}
-use Rattle.theory_list.proofs.Choosing.{Unforked}
-use Rattle.theory_list.proofs.Induction.{Unsolvable}
-use Rattle.theory_list.proofs.Readings.{listed}
-use Rattle.theory_list.proofs.Settled.{settled}
-use Rattle.solve_reduce.specs.Reduced.{Given}
+use Rattle.theory_forest.specs.Shape.{Shaped}
+use Rattle.theory_list.specs.Choosing.{Unforked}
+use Rattle.theory_list.specs.Unsolvable.{Unsolvable}
+use Rattle.theory_list.specs.Readings.{listed}
+use Rattle.theory_list.specs.Settled.{settled}
+use Rattle.solve_reduce.specs.Reduced.{LooplessForm}
 use Rattle.solve_reduce.specs.Chosen.{Bounded, Chosen}
 use Rattle.solve_reduce.specs.declared.choose.Fork.{Fork}
 use Rattle.solve_reduce.specs.declared.choose.Fork.the-variants.{None, At}
@@ -23,7 +23,7 @@ use Rattle.theory_walk.proofs.Halves.{solvable-loopless}
 use Rattle.theory_walk.proofs.Decisions.{graph-pushed}
 use Rattle.theory_walk.proofs.States.{entering-outset, entering-room, entering-first, entering-second, entering-at, at-entry, leaving-turned, leaving-first, leaving-second, leaving-end}
 use Rattle.solve_branch.specs.Decisions.{decisions}
-use Rattle.solve_branch.specs.Given.{Reduction, Fits}
+use Rattle.solve_branch.specs.Fits.{Reduction, Fits}
 use Rattle.solve_branch.specs.States.{Enters, Stands, Halved, Turned}
 use Rattle.solve_branch.proofs.Tables.{decision-first, decision-second, decisions-none, decisions-more, decisions-length, decisions-pushed}
 use Rattle.solve_branch.proofs.Fitting.{reduction-at, reduction-outset, fits-at}
@@ -68,7 +68,7 @@ module _ {g : Graph} {uppers lowers low high : List ℕ} {depth k : ℕ} (s : Sh
 -- where none is left
 
 pub enters-given : {g : Graph} {n : ℕ} {parents owners : List ℕ} {roots : NodeSet} {uppers lowers low high : List ℕ} {depth k : ℕ} → Fits g n parents owners roots
-    → Enters g uppers lowers low high depth k → Given (graphAt g (decisions uppers lowers depth)) n low high
+    → Enters g uppers lowers low high depth k → LooplessForm (graphAt g (decisions uppers lowers depth)) n low high
 enters-given {n = n} {parents = parents} {owners = owners} {roots = roots} f x =
     let o = fits-at n (x .entering .valid) parents owners roots f .owned in
     record { shaped = o .shaped; loopless = solvable-loopless (x .entering .solvable); nodes = o .nodes; reduced = reduction-at (o .nodes) (x .reduction) }
@@ -80,7 +80,7 @@ enters-stands s x u = record { at = entering-at s (x .entering) u; reduction = x
 -- what the choice found says
 
 module _ {g : Graph} {n : ℕ} {parents owners : List ℕ} {roots : NodeSet} {uppers lowers low high : List ℕ} {depth k : ℕ} (f : Fits g n parents owners roots)
-    (x : Enters g uppers lowers low high depth k) (r : Fork) (found : (h : Graph) → Given h n low high → Chosen h r) where
+    (x : Enters g uppers lowers low high depth k) (r : Fork) (found : (h : Graph) → LooplessForm h n low high → Chosen h r) where
   pub found-none : r ≡ None → Stands g uppers lowers low high depth k
   found-none is =
       let u : Unforked (graphAt g (decisions uppers lowers depth)) = rw is at (found (graphAt g (decisions uppers lowers depth)) (enters-given f x)) in
@@ -98,12 +98,12 @@ found-bounds is w = rw is at w
 -- at a reading: what `fork::settle` is given there, and what it writes
 
 module _ {g : Graph} {n : ℕ} {parents owners : List ℕ} {roots : NodeSet} (f : Fits g n parents owners roots) {uppers lowers low high : List ℕ} {depth k : ℕ} (x : Stands g uppers lowers low high depth k) where
-  pub stands-given : Given (graphAt g (decisions uppers lowers depth)) n low high
+  pub stands-given : LooplessForm (graphAt g (decisions uppers lowers depth)) n low high
   stands-given =
       let o = fits-at n (x .at .valid) parents owners roots f .owned in
       record { shaped = o .shaped; loopless = x .at .loopless; nodes = o .nodes; reduced = reduction-at (o .nodes) (x .reduction) }
 
-  pub stands-entry : (out : List ℕ) → ((h : Graph) → Given h n low high → take n out ≡ settled h) → take n out ≡ entry (listed g) k
+  pub stands-entry : (out : List ℕ) → ((h : Graph) → LooplessForm h n low high → take n out ≡ settled h) → take n out ≡ entry (listed g) k
   stands-entry out wrote = wrote (graphAt g (decisions uppers lowers depth)) stands-given ∙ sym (at-entry (x .at))
 
 -- going back

@@ -7,7 +7,7 @@ use lib.ListN.{length, take, drop}
 use Rattle.graph.specs.Graph.{Graph}
 use Rattle.theory_walk.specs.Walk.{graphAt}
 use Rattle.solve_branch.specs.Decisions.{decisions}
-use Rattle.solve_branch.specs.Given.{Reduction}
+use Rattle.solve_branch.specs.Fits.{Reduction}
 
 -- 257 words a level
 abbrev pub level : ℕ → List ℕ → List ℕ

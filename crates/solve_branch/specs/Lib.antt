@@ -1,5 +1,5 @@
 pub mod Decisions
-pub mod Given
+pub mod Fits
 pub mod Levels
 pub mod States
 pub mod Dives

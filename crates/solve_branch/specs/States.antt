@@ -4,11 +4,11 @@ use mathlib.Core.List.{List}
 use mathlib.Core.Bool.{Bool, true, false}
 use Rattle.graph.specs.Graph.{Graph, Descent}
 use Rattle.graph.specs.Placing.{Solvable}
-use Rattle.theory_forest.proofs.Shape.{Shaped}
-use Rattle.theory_list.proofs.Induction.{Unsolvable}
+use Rattle.theory_forest.specs.Shape.{Shaped}
+use Rattle.theory_list.specs.Unsolvable.{Unsolvable}
 use Rattle.theory_walk.specs.Walk.{first, second, half, graphAt, Entering, At}
 use Rattle.solve_branch.specs.Decisions.{decisions}
-use Rattle.solve_branch.specs.Given.{Reduction}
+use Rattle.solve_branch.specs.Fits.{Reduction}
 
 -- k readings are passed, and those of the graph at the decisions come next
 pub record Enters (g : Graph) (uppers lowers low high : List ℕ) (depth k : ℕ) : Type 0 where

@@ -7,7 +7,7 @@ ghost use Rattle.graph.specs.Graph.{Graph};
 ghost use Rattle.solve_reduce.specs.Reduced.{Wide, Reduced};
 ghost use Rattle.theory_walk.specs.Walk.{graphAt};
 ghost use Rattle.solve_branch.specs.Decisions.{decisions};
-ghost use Rattle.solve_branch.specs.Given.{Reduction};
+ghost use Rattle.solve_branch.specs.Fits.{Reduction};
 ghost use Rattle.solve_branch.specs.Levels.{level, Levels, Saved};
 
 // A walk that goes deeper replays the decisions from the last of them on.

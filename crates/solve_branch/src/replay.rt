@@ -1,17 +1,17 @@
 // The reduced form where decisions have led, from the levels saved.
 use crate::levels::LEVELS;
 use crate::levels::restore;
-use solve_reduce::reduced::add;
 use base_nodeset::NodeSet;
+use solve_reduce::reduced::add;
 ghost use Prim.Native.Nat.{ℕ, _+_, _≤_, _<_};
 ghost use lib.ListN.{getD};
 ghost use Rattle.graph.specs.Graph.{Graph, own};
 ghost use Rattle.graph.specs.Order.{Choice, adding};
-ghost use Rattle.theory_list.proofs.Keeping.{Fresh};
+ghost use Rattle.theory_list.specs.Keeping.{Fresh};
 ghost use Rattle.solve_reduce.specs.Reduced.{Wide};
 ghost use Rattle.theory_walk.specs.Walk.{second, half, graphAt, Valid};
 ghost use Rattle.solve_branch.specs.Decisions.{decisions, Within};
-ghost use Rattle.solve_branch.specs.Given.{Reduction, Owners, Owned};
+ghost use Rattle.solve_branch.specs.Fits.{Reduction, Owners, Owned};
 ghost use Rattle.solve_branch.specs.Levels.{Levels, Saved};
 
 // The edge from a leaf to the root of another's fragment.

@@ -1,10 +1,10 @@
 // Entering a half, and turning to the other, where a half is tested for a solved form before it is entered.
 use crate::replay::add_half;
 use crate::replay::turn;
+use base_nodeset::NodeSet;
+use base_tables::rows::copy_first;
 use solve_reduce::reduced::WIDE;
 use solve_reduce::reduced::copy;
-use base_nodeset::NodeSet;
-use rows::copy_first;
 use solve_test::solvable;
 ghost use mathlib.Core.Path.{_≡_};
 ghost use mathlib.Core.Bool.{true};
@@ -14,13 +14,12 @@ ghost use lib.ListN.{length, getD};
 ghost use Rattle.graph.specs.Graph.{Graph};
 ghost use Rattle.graph.specs.Order.{Choice};
 ghost use Rattle.graph.specs.Placing.{Solvable};
-ghost use Rattle.theory_forest.proofs.Shape.{Shaped};
-ghost use Rattle.sheet_decode.specs.Judge.{Parents};
-ghost use Rattle.trees.specs.Trees.{TreeOf};
+ghost use Rattle.theory_forest.specs.Shape.{Shaped};
+ghost use Rattle.base_tables.specs.Trees.{Parents, TreeOf};
 ghost use Rattle.solve_reduce.specs.Reduced.{Wide};
 ghost use Rattle.theory_walk.specs.Walk.{graphAt, Valid};
 ghost use Rattle.solve_branch.specs.Decisions.{decisions, Within, Kept};
-ghost use Rattle.solve_branch.specs.Given.{Reduction, Owners, Fits};
+ghost use Rattle.solve_branch.specs.Fits.{Reduction, Owners, Fits};
 ghost use Rattle.solve_branch.specs.Levels.{Levels, Saved};
 ghost use Rattle.solve_branch.specs.States.{Halved, Turned, Enters};
 

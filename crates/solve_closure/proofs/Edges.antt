@@ -17,7 +17,7 @@ use Rattle.base_nodeset.proofs.Members.{Small, removed-member}
 use Rattle.graph.specs.Graph.{none}
 use Rattle.theory_forest.proofs.Closure.{Adding}
 use Rattle.theory_forest.proofs.Table.{or-holds, and-holds, eqb-holds}
-use Rattle.rows.specs.Rows.{inRow, IsRow, RowPut}
+use Rattle.base_tables.specs.Rows.{inRow, IsRow, RowPut}
 use Rattle.solve_closure.specs.Closing.{Rising, Joined, Extended, Links, linkTo, linkIn, headOf, headIn, Closed, Adds}
 use Rattle.solve_closure.proofs.Laws.{rows-map, path-iff, extended-rows}
 

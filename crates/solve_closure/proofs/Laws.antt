@@ -12,10 +12,11 @@ use Rattle.base_finite.specs.Below.{any}
 use Rattle.base_finite.proofs.Laws.{by-bool, and-both, and-intro, any-at, any-found, not-holding, test-ext}
 use Rattle.graph.specs.Graph.{Graph, Descent, Path, one, more}
 use Rattle.graph.specs.Placing.{Below}
-use Rattle.theory_forest.proofs.Shape.{Shaped}
+use Rattle.theory_forest.specs.Shape.{Shaped}
 use Rattle.theory_forest.proofs.Closure.{Adding, path-map, adding-closure}
-use Rattle.theory_forest.proofs.Table.{descends, under, acyclic, or-holds, and-holds, eqb-holds, descends-iff, under-iff, acyclic-iff, descent-within, below-within}
-use Rattle.rows.specs.Rows.{inRow, Rows}
+use Rattle.theory_forest.specs.Table.{descends, under, acyclic}
+use Rattle.theory_forest.proofs.Table.{or-holds, and-holds, eqb-holds, descends-iff, under-iff, acyclic-iff, descent-within, below-within}
+use Rattle.base_tables.specs.Rows.{inRow, Rows}
 use Rattle.solve_closure.specs.Closing.{Extended}
 
 -- equivalent relations

@@ -1,3 +1,3 @@
 pub mod Laws
 pub mod Edges
-pub mod Held
+pub mod GraphRows

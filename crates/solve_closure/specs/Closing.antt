@@ -9,7 +9,7 @@ use lib.ListN.{length, getD}
 use Rattle.base_nodeset.specs.Set.{mem}
 use Rattle.base_nodeset.specs.declared.NodeSet.{NodeSet}
 use Rattle.graph.specs.Graph.{Path, none}
-use Rattle.rows.specs.Rows.{inRow, Rows}
+use Rattle.base_tables.specs.Rows.{inRow, Rows}
 
 -- a and the nodes below n whose rows have a
 abbrev pub Rising : ℕ → ℕ → List ℕ → List ℕ → NodeSet → Type 0

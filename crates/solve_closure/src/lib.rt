@@ -2,11 +2,11 @@
 // 128 words. An edge is added to closed rows, of which there may be more, in one pass over one column of them and one
 // over the rows that it extends.
 use base_nodeset::NodeSet;
-use rows::in_row;
-use rows::put_at;
-use rows::row;
-use rows::set_at;
-use sheet_decode::NONE;
+use base_tables::NONE;
+use base_tables::rows::in_row;
+use base_tables::rows::put_at;
+use base_tables::rows::row;
+use base_tables::rows::set_at;
 ghost use mathlib.Core.Path.{_≡_};
 ghost use mathlib.Core.Bool.{true, false, _&&_};
 ghost use mathlib.Core.List.{List};
@@ -17,8 +17,9 @@ ghost use Rattle.base_finite.specs.Below.{any};
 ghost use Rattle.base_nodeset.specs.Set.{bit, mem};
 ghost use Rattle.graph.specs.Graph.{Graph, Descent, none};
 ghost use Rattle.graph.specs.Placing.{placing as placingOf, Below};
-ghost use Rattle.sheet_decode.specs.Judge.{Parents};
-ghost use Rattle.rows.specs.Rows.{Long, inRow, Rows, Tables};
+ghost use Rattle.base_tables.specs.Trees.{Parents};
+ghost use Rattle.base_tables.specs.Rows.{Long, inRow, Rows};
+ghost use Rattle.base_tables.specs.Tables.{Tables};
 ghost use Rattle.solve_closure.specs.Closing.{Rising, Joined, Extended, Links, linkTo, linkIn, headOf, headIn, Adds};
 
 // Some node below n lies under itself.

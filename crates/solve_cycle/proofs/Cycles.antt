@@ -16,18 +16,21 @@ use Rattle.base_finite.proofs.Laws.{by-bool, or-left, or-right, or-cases, or-co
 use Rattle.graph.specs.Graph.{Graph, among, entered, parent, none, TreeEdge, DominanceEdge, GraphEdge}
 use Rattle.graph.specs.Order.{without, removed}
 use Rattle.graph.specs.Cycle.{pairs, node, kind, hypernormalCycle}
-use Rattle.theory_format.proofs.Edges.{parent-among, parent-only, parent-unentered}
-use Rattle.theory_forest.proofs.Shape.{Shaped, well-formed-shaped}
+use Rattle.theory_edges.proofs.Edges.{parent-among, parent-only, parent-unentered}
+use Rattle.theory_forest.specs.Shape.{Shaped}
+use Rattle.theory_forest.proofs.Shape.{well-formed-shaped}
 use Rattle.theory_forest.proofs.Table.{graph-edge-within}
 use Rattle.theory_forest.proofs.Fragments.{leaf-not-root}
-use Rattle.theory_cycle.proofs.Alone.{alone}
-use Rattle.theory_cycle.proofs.Connected.{Connected, connected-carry}
+use Rattle.theory_cycle.specs.Alone.{alone}
+use Rattle.theory_cycle.specs.Connected.{Connected}
+use Rattle.theory_cycle.proofs.Connected.{connected-carry}
 use Rattle.theory_cycle.proofs.Trails.{EitherWay}
 use Rattle.theory_cycle.proofs.Spelt.{Step, Spelt, spelt-hypernormal}
 use Rattle.theory_cycle.proofs.Minimal.{Others, joined-without, minimal-sparse, some-edge}
-use Rattle.rows.specs.Rows.{inRow, Tables}
+use Rattle.base_tables.specs.Rows.{inRow}
+use Rattle.base_tables.specs.Tables.{Tables}
 use Rattle.solve_cycle.specs.Thinning.{Unsolved, TakenOut, Thinned, before}
-use Rattle.trees.specs.Trees.{tiedIn}
+use Rattle.base_tables.specs.Trees.{tiedIn}
 use Rattle.solve_cycle.specs.Searching.{joinedIn, seenIn, Queue, Searched}
 use Rattle.solve_cycle.specs.Spelling.{kindIn, Back, Trail, Linked, Ring}
 use Rattle.solve_cycle.proofs.Thins.{removed-tables, row-within, thinned-minimal, thinned-shaped}

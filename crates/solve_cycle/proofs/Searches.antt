@@ -11,8 +11,8 @@ use borrow.Author.Tests.{eq-eqb, ne-eqb, eqb-true, eqb-false, ltb-true, ltb-fals
 use Rattle.base_finite.specs.Below.{count}
 use Rattle.base_finite.proofs.Laws.{by-bool, or-right, count-one-more, count-le, count-none}
 use Rattle.graph.specs.Graph.{none}
-use Rattle.rows.specs.Rows.{inRow}
-use Rattle.trees.specs.Trees.{tiedIn}
+use Rattle.base_tables.specs.Rows.{inRow}
+use Rattle.base_tables.specs.Trees.{tiedIn}
 use Rattle.solve_cycle.specs.Searching.{joinedIn, seenIn, Queue, Grown, Reached, Visited, Unsearched, Searched}
 
 -- below m + 1 is m, or below m

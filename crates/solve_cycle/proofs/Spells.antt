@@ -7,7 +7,7 @@ use native.Mathlib.Omega.{arith}
 use lib.ListN.{length, getD, set, drop, length-set}
 use lib.Seq.{getD-set-same, getD-set-other, drop-set-lt, drop-drop}
 use Rattle.graph.specs.Cycle.{node, kind}
-use Rattle.trees.specs.Trees.{tiedIn}
+use Rattle.base_tables.specs.Trees.{tiedIn}
 use Rattle.solve_cycle.specs.Spelling.{kindIn, Back, Trail}
 use Rattle.solve_cycle.proofs.Searches.{last-or-old}
 

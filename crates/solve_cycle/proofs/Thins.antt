@@ -16,13 +16,15 @@ use Rattle.base_nodeset.specs.declared.NodeSet.{NodeSet}
 use Rattle.graph.specs.Graph.{Edge, Graph, among, distinct, root, leaf, WellFormed}
 use Rattle.graph.specs.Order.{without, removed}
 use Rattle.graph.specs.Placing.{Solvable}
-use Rattle.theory_format.proofs.Edges.{distinct-cons}
-use Rattle.theory_forest.proofs.Shape.{Shaped, without-among, well-formed-shaped}
-use Rattle.theory_forest.proofs.Table.{Among}
+use Rattle.theory_edges.proofs.Edges.{distinct-cons}
+use Rattle.theory_forest.specs.Shape.{Shaped}
+use Rattle.theory_forest.proofs.Shape.{without-among, well-formed-shaped}
+use Rattle.theory_forest.specs.Table.{Among}
 use Rattle.theory_list.proofs.Redundancy.{without-lacks, without-keeps}
-use Rattle.theory_cycle.proofs.Alone.{alone}
+use Rattle.theory_cycle.specs.Alone.{alone}
 use Rattle.theory_cycle.proofs.Minimal.{Minimal, still-needed}
-use Rattle.rows.specs.Rows.{inRow, Tables}
+use Rattle.base_tables.specs.Rows.{inRow}
+use Rattle.base_tables.specs.Tables.{Tables}
 use Rattle.solve_cycle.specs.Thinning.{Unsolved, TakenOut, Thinned, andEdge, before}
 
 -- the list without an edge

@@ -8,8 +8,8 @@ use lib.Dec.{eqb}
 use lib.ListN.{length, getD}
 use Rattle.base_finite.specs.Below.{count}
 use Rattle.graph.specs.Graph.{none}
-use Rattle.rows.specs.Rows.{inRow}
-use Rattle.trees.specs.Trees.{tiedIn}
+use Rattle.base_tables.specs.Rows.{inRow}
+use Rattle.base_tables.specs.Trees.{tiedIn}
 
 -- an edge joins the two
 unfoldable pub joinedIn : List ℕ → List ℕ → List ℕ → ℕ → ℕ → Bool

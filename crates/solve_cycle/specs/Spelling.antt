@@ -6,9 +6,9 @@ use mathlib.Core.Bool.{true, cond}
 use lib.ListN.{length, getD, drop}
 use Rattle.graph.specs.Graph.{Graph, GraphEdge}
 use Rattle.graph.specs.Cycle.{node, kind}
-use Rattle.rows.specs.Rows.{Tables}
-use Rattle.theory_cycle.proofs.Connected.{Connected}
-use Rattle.trees.specs.Trees.{tiedIn}
+use Rattle.base_tables.specs.Tables.{Tables}
+use Rattle.theory_cycle.specs.Connected.{Connected}
+use Rattle.base_tables.specs.Trees.{tiedIn}
 use Rattle.solve_cycle.specs.Searching.{joinedIn}
 
 -- 2 for tree, 3 for dominance

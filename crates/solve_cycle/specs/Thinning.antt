@@ -9,9 +9,10 @@ use lib.ListN.{length, getD, set}
 use Rattle.graph.specs.Graph.{Edge, Graph, DominanceEdge}
 use Rattle.graph.specs.Order.{removed}
 use Rattle.graph.specs.Placing.{Solvable}
-use Rattle.rows.specs.Rows.{inRow, Tables}
-use Rattle.theory_forest.proofs.Table.{Among}
-use Rattle.theory_cycle.proofs.Alone.{alone}
+use Rattle.base_tables.specs.Rows.{inRow}
+use Rattle.base_tables.specs.Tables.{Tables}
+use Rattle.theory_forest.specs.Table.{Among}
+use Rattle.theory_cycle.specs.Alone.{alone}
 
 -- the tables are those of a well-formed graph that has no solved form
 pub record Unsolved (n : ℕ) (parents low high : List ℕ) : Type 0 where

@@ -3,14 +3,14 @@
 mod minimal;
 mod search;
 
+use base_tables::NONE;
+use base_tables::rows::copy_rows;
+use base_tables::rows::row;
+use base_tables::trees::tied;
 use minimal::first_leaf;
 use minimal::minimize;
 use minimal::take_out;
-use rows::copy_rows;
-use rows::row;
 use search::search;
-use sheet_decode::NONE;
-use trees::tied;
 ghost use mathlib.Core.Path.{_≡_};
 ghost use mathlib.Core.Bool.{true};
 ghost use Prim.Native.Nat.{_+_, _*_, _≤_, _<_};

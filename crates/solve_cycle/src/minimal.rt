@@ -1,6 +1,6 @@
 // A minimal set of edges without a solved form: each edge is taken out, and put back if the rest has one.
+use base_tables::rows::row;
 use solve_closure::graph_rows;
-use rows::row;
 use solve_test::solvable;
 ghost use mathlib.Core.Path.{_≡_};
 ghost use mathlib.Core.Bool.{Bool, true};
@@ -9,8 +9,9 @@ ghost use Prim.Native.Nat.{ℕ, _+_, _≤_, _<_};
 ghost use Rattle.base_finite.specs.Below.{any, least};
 ghost use Rattle.graph.specs.Graph.{Graph};
 ghost use Rattle.graph.specs.Placing.{Solvable};
-ghost use Rattle.rows.specs.Rows.{Long, inRow, Tables};
-ghost use Rattle.sheet_decode.specs.Judge.{Parents};
+ghost use Rattle.base_tables.specs.Rows.{Long, inRow};
+ghost use Rattle.base_tables.specs.Tables.{Tables};
+ghost use Rattle.base_tables.specs.Trees.{Parents};
 ghost use Rattle.solve_cycle.specs.Thinning.{Unsolved, TakenOut, Thinned, andEdge, before};
 
 // Whether the graph in the tables has a solved form.

@@ -1,11 +1,11 @@
 // A search from a node over edges taken either way, breadth first.
-use rows::in_row;
-use sheet_decode::NONE;
-use trees::tied;
+use base_tables::NONE;
+use base_tables::rows::in_row;
+use base_tables::trees::tied;
 ghost use mathlib.Core.Path.{_≡_};
 ghost use Prim.Native.Nat.{_≤_, _<_};
 ghost use lib.ListN.{length, getD};
-ghost use Rattle.rows.specs.Rows.{Long};
+ghost use Rattle.base_tables.specs.Rows.{Long};
 ghost use Rattle.solve_cycle.specs.Searching.{joinedIn, Queue, Reached, Visited, Unsearched, Searched};
 
 // An edge joins the two.

@@ -17,9 +17,9 @@ use Rattle.base_nodeset.specs.declared.NodeSet.{NodeSet}
 use Rattle.graph.specs.Graph.{Graph}
 use Rattle.graph.specs.Order.{Kept, Choice}
 use Rattle.theory_list.proofs.Redundancy.{kept-within}
-use Rattle.theory_list.proofs.Choosing.{Unforked}
-use Rattle.rows.specs.Rows.{inRow}
-use Rattle.solve_reduce.specs.Reduced.{second, several, Given}
+use Rattle.theory_list.specs.Choosing.{Unforked}
+use Rattle.base_tables.specs.Rows.{inRow}
+use Rattle.solve_reduce.specs.Reduced.{second, several, LooplessForm}
 
 -- the numbers but the lowest
 abbrev others : (ℕ → Bool) → ℕ → Bool
@@ -64,7 +64,7 @@ module _ (p : ℕ → Bool) (b : ℕ) (is : b ≡ second p) (some : b < 128) whe
 pub lowest-below : (s : NodeSet) (b : ℕ) → b ≡ second (mem s) → b < 128 → least 128 (mem s) < b
 lowest-below s b is some = lowest-less (mem s) b is some
 
-module _ (g : Graph) (n : ℕ) (low high : List ℕ) (is : Given g n low high) where
+module _ (g : Graph) (n : ℕ) (low high : List ℕ) (is : LooplessForm g n low high) where
   -- the leaves whose edges to v stay
   abbrev leaves : ℕ → ℕ → Bool
   leaves v l = inRow low high (n + v) l

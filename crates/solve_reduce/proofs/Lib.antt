@@ -1,4 +1,4 @@
-pub mod Trees
+pub mod Ends
 pub mod Tops
 pub mod Staying
 pub mod Choices

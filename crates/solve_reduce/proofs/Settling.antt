@@ -16,11 +16,13 @@ use Rattle.base_nodeset.specs.Set.{mem}
 use Rattle.base_nodeset.specs.declared.NodeSet.{NodeSet}
 use Rattle.graph.specs.Graph.{Graph, none}
 use Rattle.graph.specs.Placing.{at}
-use Rattle.theory_list.proofs.Redundancy.{kept, kept-holds}
-use Rattle.theory_list.proofs.Choosing.{lowestAbove}
-use Rattle.theory_list.proofs.Settled.{within, settled, settled-length, settled-at}
-use Rattle.rows.specs.Rows.{inRow}
-use Rattle.solve_reduce.specs.Reduced.{Given}
+use Rattle.theory_list.specs.Redundancy.{kept}
+use Rattle.theory_list.proofs.Redundancy.{kept-holds}
+use Rattle.theory_list.specs.Choosing.{lowestAbove}
+use Rattle.theory_list.specs.Settled.{within, settled}
+use Rattle.theory_list.proofs.Settled.{settled-length, settled-at}
+use Rattle.base_tables.specs.Rows.{inRow}
+use Rattle.solve_reduce.specs.Reduced.{LooplessForm}
 
 -- a search that goes on behind n finds nothing more, as a node
 least-within : (n : ℕ) (p : ℕ → Bool) → n ≤ 128 → within n (least 128 p) ≡ within n (least n p)
@@ -43,7 +45,7 @@ least-within n p h =
 abbrev pub lowest : ℕ → List ℕ → List ℕ → ℕ → ℕ
 lowest n low high v = within n (least 128 (λ (l : ℕ). inRow low high (n + v) l))
 
-module _ (g : Graph) (n : ℕ) (low high : List ℕ) (is : Given g n low high) where
+module _ (g : Graph) (n : ℕ) (low high : List ℕ) (is : LooplessForm g n low high) where
   lowest-settled : (v : ℕ) → v < n → lowest n low high v ≡ at (settled g) v
   unfolding lowestAbove kept
   lowest-settled v h =

@@ -13,13 +13,13 @@ use Rattle.base_nodeset.specs.Set.{mem}
 use Rattle.base_nodeset.specs.declared.NodeSet.{NodeSet}
 use Rattle.graph.specs.Graph.{Graph, root, leaf, Descent, one, more}
 use Rattle.graph.specs.Order.{Kept}
-use Rattle.theory_format.proofs.Spelling.{root-below}
-use Rattle.theory_forest.proofs.Shape.{Shaped}
+use Rattle.theory_edges.proofs.Ends.{root-below}
+use Rattle.theory_forest.specs.Shape.{Shaped}
 use Rattle.theory_forest.proofs.Closure.{path-trans}
 use Rattle.theory_forest.proofs.Fragments.{leaf-childless}
-use Rattle.theory_list.proofs.Redundancy.{Loopless}
+use Rattle.theory_list.specs.Redundancy.{Loopless}
 use Rattle.theory_list.proofs.Keeping.{kept-rows}
-use Rattle.rows.specs.Rows.{inRow, Rows}
+use Rattle.base_tables.specs.Rows.{inRow, Rows}
 use Rattle.solve_reduce.specs.Reduced.{Ends}
 use Rattle.solve_reduce.specs.Staying.{Closed, topIn, headOf}
 

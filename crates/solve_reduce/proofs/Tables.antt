@@ -16,13 +16,14 @@ use Rattle.base_nodeset.specs.declared.NodeSet.{NodeSet}
 use Rattle.base_nodeset.proofs.Members.{removed-member, removed-other, removed-gone}
 use Rattle.graph.specs.Graph.{Graph, Descent}
 use Rattle.graph.specs.Order.{Kept, adding}
-use Rattle.theory_format.proofs.Spelling.{leaf-below}
-use Rattle.theory_forest.proofs.Shape.{Shaped}
+use Rattle.theory_edges.proofs.Ends.{leaf-below}
+use Rattle.theory_forest.specs.Shape.{Shaped}
 use Rattle.theory_forest.proofs.Closure.{descent-adding}
 use Rattle.theory_forest.proofs.Table.{or-holds, and-holds, eqb-holds, descent-within}
-use Rattle.theory_list.proofs.Redundancy.{Loopless}
-use Rattle.theory_list.proofs.Keeping.{Fresh, loopless-fewer, kept-adding}
-use Rattle.rows.specs.Rows.{inRow, RowPut, Rows}
+use Rattle.theory_list.specs.Redundancy.{Loopless}
+use Rattle.theory_list.specs.Keeping.{Fresh}
+use Rattle.theory_list.proofs.Keeping.{loopless-fewer, kept-adding}
+use Rattle.base_tables.specs.Rows.{inRow, RowPut, Rows}
 use Rattle.solve_closure.specs.Closing.{Extended}
 use Rattle.solve_reduce.specs.Reduced.{second, several, Forks, Ends, RootsAre, Wide, Reduced, Blank, Revised, Noted}
 use Rattle.solve_reduce.specs.Staying.{Closed, headOf, Heads}

@@ -12,7 +12,7 @@ use Rattle.base_nodeset.specs.Set.{mem, Removed, Intersection, Difference}
 use Rattle.base_nodeset.specs.declared.NodeSet.{NodeSet}
 use Rattle.base_nodeset.proofs.Members.{Small}
 use Rattle.base_finite.proofs.Counting.{count-grows}
-use Rattle.rows.specs.Rows.{inRow}
+use Rattle.base_tables.specs.Rows.{inRow}
 use Rattle.solve_reduce.specs.Staying.{Closed, topIn, headOf, Tops, Heads}
 
 pub record TopsSo (set : NodeSet) (low high : List ℕ) (top left : NodeSet) : Type 0 where

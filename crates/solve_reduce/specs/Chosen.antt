@@ -2,7 +2,7 @@
 use Prim.Native.Nat.{ℕ, _<_}
 use Rattle.graph.specs.Graph.{Graph}
 use Rattle.graph.specs.Order.{Choice}
-use Rattle.theory_list.proofs.Choosing.{Unforked}
+use Rattle.theory_list.specs.Choosing.{Unforked}
 use Rattle.solve_reduce.specs.declared.choose.Fork.{Fork}
 use Rattle.solve_reduce.specs.declared.choose.Fork.the-variants.{None, At}
 

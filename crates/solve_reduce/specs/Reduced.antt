@@ -11,9 +11,9 @@ use Rattle.base_nodeset.specs.Set.{mem}
 use Rattle.base_nodeset.specs.declared.NodeSet.{NodeSet}
 use Rattle.graph.specs.Graph.{Graph, root, leaf, Descent}
 use Rattle.graph.specs.Order.{Kept}
-use Rattle.theory_forest.proofs.Shape.{Shaped}
-use Rattle.theory_list.proofs.Redundancy.{Loopless}
-use Rattle.rows.specs.Rows.{inRow}
+use Rattle.theory_forest.specs.Shape.{Shaped}
+use Rattle.theory_list.specs.Redundancy.{Loopless}
+use Rattle.base_tables.specs.Rows.{inRow}
 
 pub record Ends (g : Graph) (n : ℕ) (leaves roots : NodeSet) : Type 0 where
   pub nodes : n ≡ g .nodes
@@ -47,7 +47,7 @@ pub record Reduced (g : Graph) (n : ℕ) (low high : List ℕ) : Type 0 where
   pub edges : Loopless g → (v l : ℕ) → v < n → (inRow low high (n + v) l ≡ true) ↔ Kept g l v
   pub forks : (v : ℕ) → v < n → inRow low high (n + n) v ≡ several (λ (l : ℕ). inRow low high (n + v) l)
 
-pub record Given (g : Graph) (n : ℕ) (low high : List ℕ) : Type 0 where
+pub record LooplessForm (g : Graph) (n : ℕ) (low high : List ℕ) : Type 0 where
   pub shaped : Shaped g
   pub loopless : Loopless g
   pub nodes : n ≡ g .nodes

@@ -6,7 +6,7 @@ use mathlib.Core.Bool.{Bool, true, not, _&&_}
 use Rattle.base_finite.specs.Below.{any}
 use Rattle.base_nodeset.specs.Set.{mem}
 use Rattle.base_nodeset.specs.declared.NodeSet.{NodeSet}
-use Rattle.rows.specs.Rows.{inRow}
+use Rattle.base_tables.specs.Rows.{inRow}
 
 abbrev pub Closed : List ℕ → List ℕ → Type 0
 Closed low high = (u v w : ℕ) → inRow low high u v ≡ true → inRow low high v w ≡ true → inRow low high u w ≡ true

@@ -1,9 +1,9 @@
 // The choice of Rule 3: the lowest root with two edges that stay, and of their leaves the two lowest.
 use crate::forks::second;
-use rows::set_at;
+use base_tables::rows::set_at;
 ghost use Prim.Native.Nat.{_≤_};
 ghost use Rattle.graph.specs.Graph.{Graph};
-ghost use Rattle.solve_reduce.specs.Reduced.{Wide, Given};
+ghost use Rattle.solve_reduce.specs.Reduced.{Wide, LooplessForm};
 ghost use Rattle.solve_reduce.specs.Chosen.{Bounded, Chosen};
 
 pub enum Fork {
@@ -15,7 +15,7 @@ pub enum Fork {
 pub fn choose(low: &[u64], high: &[u64], n: usize) -> Fork
     requires { ⌜ Wide (now low) (now high) × (n ≤ 128) ⌝ }
     ensures { λ r. ⌜ Bounded n r ⌝ }
-    ensures { λ r. ⌜ ((g : Graph) → Given g n (now (low .entry)) (now (high .entry)) → Chosen g r) ⌝ }
+    ensures { λ r. ⌜ ((g : Graph) → LooplessForm g n (now (low .entry)) (now (high .entry)) → Chosen g r) ⌝ }
 {
     let v = set_at(low, high, n + n).lowest();
     if n <= v {

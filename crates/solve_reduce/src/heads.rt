@@ -1,8 +1,8 @@
 // Rule 2: the roots that a leaf's edges go to, those that are redundant left out.
 use base_nodeset::NodeSet;
-use rows::row;
+use base_tables::rows::row;
 ghost use Prim.Native.Nat.{_<_};
-ghost use Rattle.rows.specs.Rows.{Long};
+ghost use Rattle.base_tables.specs.Rows.{Long};
 ghost use Rattle.solve_reduce.specs.Staying.{Tops, Heads};
 
 // The members of the set that are in no member's row. In closed rows a member that is in a row already read has nothing

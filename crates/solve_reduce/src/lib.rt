@@ -1,6 +1,5 @@
 // A graph's reduced form, kept in tables: Rule 2, the choice of Rule 3, and the placing where no choice is left.
 pub mod choose;
-pub mod ends;
 mod forks;
 mod heads;
 pub mod reduced;

@@ -2,20 +2,20 @@
 // edges to it stay, and last the forks, which have several. An edge more changes few of them.
 use crate::forks::noted;
 use crate::heads::heads;
-use solve_closure::add_edge;
 use base_nodeset::NodeSet;
-use rows::copy_first;
-use rows::put_at;
-use rows::set_at;
+use base_tables::rows::copy_first;
+use base_tables::rows::put_at;
+use base_tables::rows::set_at;
+use solve_closure::add_edge;
 ghost use mathlib.Core.Path.{_≡_};
 ghost use mathlib.Core.Bool.{true};
 ghost use Prim.Native.Nat.{ℕ, _≤_, _<_};
 ghost use Rattle.base_nodeset.specs.Set.{mem};
 ghost use Rattle.graph.specs.Graph.{Graph, Descent};
 ghost use Rattle.graph.specs.Order.{adding};
-ghost use Rattle.theory_forest.proofs.Shape.{Shaped};
-ghost use Rattle.theory_list.proofs.Keeping.{Fresh};
-ghost use Rattle.rows.specs.Rows.{Long, Rows};
+ghost use Rattle.theory_forest.specs.Shape.{Shaped};
+ghost use Rattle.theory_list.specs.Keeping.{Fresh};
+ghost use Rattle.base_tables.specs.Rows.{Long, Rows};
 ghost use Rattle.solve_reduce.specs.Reduced.{Wide, Forks, Ends, RootsAre, Reduced, Blank, Revised};
 
 // The words of each list, for 128 nodes.

@@ -1,12 +1,12 @@
 // Where no choice is left: each root under the leaf of its one edge that stays.
-use rows::set_at;
-use sheet_decode::NONE;
+use base_tables::NONE;
+use base_tables::rows::set_at;
 ghost use mathlib.Core.Path.{_≡_};
 ghost use Prim.Native.Nat.{_≤_};
 ghost use lib.ListN.{length, take, drop};
 ghost use Rattle.graph.specs.Graph.{Graph};
-ghost use Rattle.theory_list.proofs.Settled.{within, settled};
-ghost use Rattle.solve_reduce.specs.Reduced.{Wide, Given};
+ghost use Rattle.theory_list.specs.Settled.{within, settled};
+ghost use Rattle.solve_reduce.specs.Reduced.{Wide, LooplessForm};
 
 // A node as a byte, and no node for what is none.
 fn byte(l: usize, n: usize) -> u8
@@ -22,7 +22,7 @@ fn byte(l: usize, n: usize) -> u8
 pub fn settle(low: &[u64], high: &[u64], n: usize, out: &mut [u8])
     requires { ⌜ Wide (now low) (now high) × (n ≤ 128) × (n ≤ length (now out)) ⌝ }
     ensures { λ _. ⌜ drop n (now (out .exit)) ≡ drop n (now (out .entry)) ⌝ }
-    ensures { λ _. ⌜ ((g : Graph) → Given g n (now (low .entry)) (now (high .entry)) → take n (now (out .exit)) ≡ settled g) ⌝ }
+    ensures { λ _. ⌜ ((g : Graph) → LooplessForm g n (now (low .entry)) (now (high .entry)) → take n (now (out .exit)) ≡ settled g) ⌝ }
 {
     for v in 0..n {
         out[v] = byte(set_at(low, high, n + v).lowest(), n);

@@ -16,9 +16,9 @@ use Rattle.graph.specs.Rule1.{problem, depth, shallowest, problemLeaf}
 use Rattle.base_finite.proofs.Counting.{least-found}
 use Rattle.base_nodeset.specs.Set.{mem}
 use Rattle.base_nodeset.specs.declared.NodeSet.{NodeSet}
-use Rattle.solve_rule1.specs.Given.{Solved}
+use Rattle.solve_rule1.specs.Solved.{Solved}
 use Rattle.solve_rule1.specs.Carried.{Carrying, better, Best}
-use Rattle.solve_rule1.proofs.Held.{few, several-is}
+use Rattle.solve_rule1.proofs.SolvedTables.{few, several-is}
 
 -- one leaf more
 

@@ -1,4 +1,4 @@
-pub mod Held
+pub mod SolvedTables
 pub mod Climbing
 pub mod Choosing
 pub mod Stepping

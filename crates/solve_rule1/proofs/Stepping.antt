@@ -16,17 +16,18 @@ use Rattle.base_finite.proofs.Laws.{by-bool, last-or-below, least-at, and-false
 use Rattle.graph.specs.Graph.{Graph}
 use Rattle.graph.specs.Placing.{at, hangs, SolvedForm}
 use Rattle.graph.specs.Rule1.{problem, problemLeaf, staying, lowestLeaf, shifted, Rule1, done, again}
-use Rattle.theory_format.proofs.Spelling.{root-below}
+use Rattle.theory_edges.proofs.Ends.{root-below}
 use Rattle.theory_forest.proofs.Table.{hangs-parts}
-use Rattle.theory_forest.proofs.Shape.{Shaped, well-formed-shaped}
+use Rattle.theory_forest.specs.Shape.{Shaped}
+use Rattle.theory_forest.proofs.Shape.{well-formed-shaped}
 use Rattle.base_finite.proofs.Counting.{length-entries, entry-at}
 use Rattle.theory_rule1.proofs.Shifting.{Problem, staying-hangs, shifted-solved}
 use Rattle.theory_rule1.proofs.Ending.{pairsBelow, pairs-bound, pairs-grow}
 use Rattle.base_finite.proofs.Bounds.{least-ext}
-use Rattle.solve_rule1.specs.Given.{Solved}
+use Rattle.solve_rule1.specs.Solved.{Solved}
 use Rattle.solve_rule1.specs.Carried.{carried, Moved}
 use Rattle.solve_rule1.specs.Step.{Stepped}
-use Rattle.solve_rule1.proofs.Held.{few, hangs-is}
+use Rattle.solve_rule1.proofs.SolvedTables.{few, hangs-is}
 
 -- one node more
 

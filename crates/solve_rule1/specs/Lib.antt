@@ -1,3 +1,3 @@
-pub mod Given
+pub mod Solved
 pub mod Carried
 pub mod Step

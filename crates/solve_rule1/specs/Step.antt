@@ -7,7 +7,7 @@ use lib.ListN.{take, drop}
 use Rattle.base_finite.specs.Below.{any}
 use Rattle.graph.specs.Graph.{Graph}
 use Rattle.graph.specs.Rule1.{problem, shifted, Rule1}
-use Rattle.solve_rule1.specs.Given.{Solved}
+use Rattle.solve_rule1.specs.Solved.{Solved}
 
 -- whether a leaf carries several roots, and the placing afterwards
 pub record Stepped (g : Graph) (p : List ℕ) (r : Bool) (q : List ℕ) : Type 0 where

@@ -1,8 +1,8 @@
 // Rule 1: from a solved form to a configuration.
 use base_nodeset::NodeSet;
-use sheet_decode::NONE;
-use sheet_decode::judge::inner_nodes;
-use trees::own;
+use base_tables::NONE;
+use base_tables::trees::inner_nodes;
+use base_tables::trees::own;
 ghost use mathlib.Core.Path.{_≡_};
 ghost use mathlib.Core.Bool.{true, cond};
 ghost use Prim.Native.Nat.{_≤_, _<_};
@@ -12,8 +12,8 @@ ghost use Rattle.base_finite.specs.Below.{any, least};
 ghost use Rattle.base_nodeset.specs.Set.{mem};
 ghost use Rattle.graph.specs.Graph.{leafOf};
 ghost use Rattle.graph.specs.Rule1.{up, depth, lowestLeaf, Rule1};
-ghost use Rattle.sheet_decode.specs.Judge.{InnerSet};
-ghost use Rattle.solve_rule1.specs.Given.{GraphOf, Solved};
+ghost use Rattle.base_tables.specs.Trees.{InnerSet};
+ghost use Rattle.solve_rule1.specs.Solved.{GraphOf, Solved};
 ghost use Rattle.solve_rule1.specs.Carried.{carried, Carrying, better, Best, Moved};
 ghost use Rattle.solve_rule1.specs.Step.{Stepped, Configured};
 

@@ -16,13 +16,12 @@ use Rattle.base_nodeset.specs.declared.NodeSet.{NodeSet}
 use Rattle.base_nodeset.proofs.Laws.{member-zero}
 use Rattle.base_nodeset.proofs.Members.{Small, removed-member, removed-cases, removed-gone, removed-out}
 use Rattle.graph.specs.Graph.{Graph, left, leaf, own, leafOf, none}
-use Rattle.theory_format.proofs.Spelling.{leaf-below}
-use Rattle.theory_forest.proofs.Shape.{Shaped}
+use Rattle.theory_edges.proofs.Ends.{leaf-below}
+use Rattle.theory_forest.specs.Shape.{Shaped}
 use Rattle.theory_forest.proofs.Fragments.{leafOf-parts}
-use Rattle.rows.specs.Rows.{Long, IsRow, inRow}
-use Rattle.sheet_decode.specs.Judge.{InnerSet}
-use Rattle.trees.specs.Trees.{TreeOf, topIn}
-use Rattle.trees.proofs.Held.{inner-is, own-is}
+use Rattle.base_tables.specs.Rows.{Long, IsRow, inRow}
+use Rattle.base_tables.specs.Trees.{InnerSet, TreeOf, topIn}
+use Rattle.base_tables.proofs.TreeLaws.{inner-is, own-is}
 use Rattle.solve_test.specs.Tables.{Blank, Put, PutAll, NearRows, Symmetric}
 
 -- rows of zeros

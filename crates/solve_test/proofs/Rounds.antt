@@ -10,7 +10,7 @@ use Rattle.base_finite.proofs.Laws.{by-bool, and-both, or-cases, or-left, or-ri
 use Rattle.base_nodeset.specs.Set.{mem, Empty, Removed, Union, Intersection, Difference}
 use Rattle.base_nodeset.specs.declared.NodeSet.{NodeSet}
 use Rattle.base_nodeset.proofs.Members.{Small, removed-member, removed-cases, removed-gone, removed-out, removed-other, one-less}
-use Rattle.rows.specs.Rows.{IsRow}
+use Rattle.base_tables.specs.Rows.{IsRow}
 use Rattle.solve_test.specs.Tables.{Symmetric}
 use Rattle.solve_test.specs.Free.{Spread, start, Spreads, Apart, Tops, others, Taken, Taking, none-taken, then-taken, Round}
 use Rattle.solve_test.proofs.Spreading.{spread-within, spread-map, spread-back}

@@ -12,7 +12,7 @@ use Rattle.base_nodeset.specs.Set.{mem}
 use Rattle.base_nodeset.specs.declared.NodeSet.{NodeSet}
 use Rattle.graph.specs.Graph.{Graph, Descent, root, leafOf}
 use Rattle.graph.specs.Placing.{Solvable}
-use Rattle.theory_forest.proofs.Shape.{Shaped}
+use Rattle.theory_forest.specs.Shape.{Shaped}
 use Rattle.theory_solvable.proofs.Free.{OfRoots, Related, Joined, start as joined-start, step as joined-step, joined-member, Free, less, Eliminates, done, take}
 use Rattle.theory_solvable.proofs.Topmost.{stuck-unsolvable}
 use Rattle.theory_solvable.proofs.Eliminated.{eliminates-iff}

@@ -8,9 +8,9 @@ use lib.Dec.{eqb}
 use Rattle.base_nodeset.specs.Set.{mem}
 use Rattle.base_nodeset.specs.declared.NodeSet.{NodeSet}
 use Rattle.graph.specs.Graph.{Graph, leafOf}
-use Rattle.theory_forest.proofs.Shape.{Shaped}
-use Rattle.rows.specs.Rows.{Long, inRow}
-use Rattle.trees.specs.Trees.{TreeOf}
+use Rattle.theory_forest.specs.Shape.{Shaped}
+use Rattle.base_tables.specs.Rows.{Long, inRow}
+use Rattle.base_tables.specs.Trees.{TreeOf}
 
 -- rows with nothing in them
 pub record Blank (low high : List ℕ) : Type 0 where

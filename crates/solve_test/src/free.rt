@@ -1,12 +1,12 @@
 // Free fragments: which there are in a set, and that they can be taken out of it until none is left.
 use base_nodeset::NodeSet;
-use rows::row;
+use base_tables::rows::row;
 ghost use mathlib.Core.Path.{_≡_};
 ghost use mathlib.Core.Bool.{true};
 ghost use mathlib.Core.Logic.{_↔_};
 ghost use Prim.Native.Nat.{_<_};
 ghost use Rattle.base_nodeset.specs.Set.{mem};
-ghost use Rattle.rows.specs.Rows.{Long, inRow};
+ghost use Rattle.base_tables.specs.Rows.{Long, inRow};
 ghost use Rattle.solve_test.specs.Tables.{Symmetric};
 ghost use Rattle.solve_test.specs.Free.{Spreads, Apart, Tops, Taken, Round, Ended};
 

@@ -3,9 +3,9 @@
 mod free;
 mod tables;
 
+use base_tables::trees::inner_nodes;
+use base_tables::trees::root_nodes;
 use free::eliminate;
-use sheet_decode::judge::inner_nodes;
-use sheet_decode::judge::root_nodes;
 use tables::leaf_rows;
 use tables::near_rows;
 ghost use mathlib.Core.Path.{_≡_};
@@ -14,10 +14,9 @@ ghost use mathlib.Core.Logic.{_↔_};
 ghost use lib.ListN.{length};
 ghost use Rattle.graph.specs.Graph.{Graph, Descent};
 ghost use Rattle.graph.specs.Placing.{Solvable};
-ghost use Rattle.theory_forest.proofs.Shape.{Shaped};
-ghost use Rattle.rows.specs.Rows.{Rows};
-ghost use Rattle.sheet_decode.specs.Judge.{Parents};
-ghost use Rattle.trees.specs.Trees.{TreeOf};
+ghost use Rattle.theory_forest.specs.Shape.{Shaped};
+ghost use Rattle.base_tables.specs.Rows.{Rows};
+ghost use Rattle.base_tables.specs.Trees.{Parents, TreeOf};
 
 // The answer is that of every graph whose trees the parents are and whose descent relation the rows are.
 pub fn solvable(parent: &[u8], n: usize, low: &[u64], high: &[u64]) -> bool

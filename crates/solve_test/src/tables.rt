@@ -1,11 +1,11 @@
 // What the test looks up: the leaves of each fragment, the roots comparable with a root.
 use base_nodeset::NodeSet;
-use rows::row;
-use trees::own;
+use base_tables::rows::row;
+use base_tables::trees::own;
 ghost use Prim.Native.Nat.{_<_};
 ghost use Rattle.base_nodeset.specs.Set.{mem};
-ghost use Rattle.rows.specs.Rows.{Long, inRow};
-ghost use Rattle.sheet_decode.specs.Judge.{Parents, InnerSet};
+ghost use Rattle.base_tables.specs.Rows.{Long, inRow};
+ghost use Rattle.base_tables.specs.Trees.{Parents, InnerSet};
 ghost use Rattle.solve_test.specs.Tables.{Blank, Put, PutAll, LeafRows, NearRows};
 
 // The members of the set, put into row u.

@@ -4,7 +4,7 @@ use mathlib.Core.Path.{_≡_}
 use mathlib.Core.List.{List}
 use lib.ListN.{length}
 use Rattle.graph.specs.Graph.{Graph}
-use Rattle.theory_list.proofs.Readings.{listed}
+use Rattle.theory_list.specs.Readings.{listed}
 use Rattle.solve_walk.specs.declared.steps.Moved.{Moved}
 use Rattle.solve_walk.specs.declared.steps.Moved.the-variants.{To, End}
 use Rattle.solve_branch.specs.Levels.{Saved}

@@ -4,10 +4,10 @@ use mathlib.Core.List.{List}
 use lib.ListN.{length}
 use Rattle.base_nodeset.specs.declared.NodeSet.{NodeSet}
 use Rattle.graph.specs.Graph.{Graph}
-use Rattle.sheet_decode.specs.Judge.{Parents}
+use Rattle.base_tables.specs.Trees.{Parents}
 use Rattle.theory_walk.specs.Walk.{Leaving}
 use Rattle.solve_branch.specs.Decisions.{decisions}
-use Rattle.solve_branch.specs.Given.{Fits}
+use Rattle.solve_branch.specs.Fits.{Fits}
 use Rattle.solve_branch.specs.Levels.{Saved}
 use Rattle.solve_branch.specs.States.{Enters, Stands}
 

@@ -1,22 +1,22 @@
 // From reading to reading. The decisions are `depth` entries of two tables: the leaf that the edge added starts from, and
 // the leaf whose root it goes to. It is the first half of its choice where the one that it starts from is the lower.
-use solve_reduce::choose::Fork;
-use solve_reduce::choose::choose;
-use solve_reduce::reduced::reduce;
+use base_nodeset::NodeSet;
 use solve_branch::dive::Dived;
 use solve_branch::dive::back;
 use solve_branch::dive::hop;
 use solve_branch::levels::save;
 use solve_branch::tested::other_half;
 use solve_branch::tested::take_half;
-use base_nodeset::NodeSet;
+use solve_reduce::choose::Fork;
+use solve_reduce::choose::choose;
+use solve_reduce::reduced::reduce;
 ghost use Prim.Native.Nat.{ℕ, _+_};
 ghost use Rattle.graph.specs.Graph.{Graph};
-ghost use Rattle.sheet_decode.specs.Judge.{Parents};
+ghost use Rattle.base_tables.specs.Trees.{Parents};
 ghost use Rattle.solve_reduce.specs.Reduced.{Wide};
 ghost use Rattle.theory_walk.specs.Walk.{Leaving};
 ghost use Rattle.solve_branch.specs.Decisions.{decisions, Within, Room};
-ghost use Rattle.solve_branch.specs.Given.{Owners, Fits, Sheet};
+ghost use Rattle.solve_branch.specs.Fits.{Owners, Fits, Walkable};
 ghost use Rattle.solve_branch.specs.Levels.{Levels, Saved};
 ghost use Rattle.solve_branch.specs.States.{Enters, Stands};
 ghost use Rattle.solve_walk.specs.States.{Arriving, Standing, Departing};
@@ -132,10 +132,10 @@ pub fn first(
     uppers: &mut [u8],
     lowers: &mut [u8],
 ) -> usize
-    requires { ⌜ Sheet n (now parent) (now owner) leaves roots (now «base_low») (now «base_high») ⌝ }
+    requires { ⌜ Walkable n (now parent) (now owner) leaves roots (now «base_low») (now «base_high») ⌝ }
     requires { ⌜ Wide (now low) (now high) × Room n (now uppers) (now lowers) × Levels (now «saved_low») (now «saved_high») ⌝ }
     ensures { λ r. ⌜
-        ((s : Sheet n (now (parent .entry)) (now (owner .entry)) leaves roots (now («base_low» .entry)) (now («base_high» .entry))) →
+        ((s : Walkable n (now (parent .entry)) (now (owner .entry)) leaves roots (now («base_low» .entry)) (now («base_high» .entry))) →
         Stands (s .graph) (now (uppers .exit)) (now (lowers .exit)) (now (low .exit)) (now (high .exit)) r 0
         × Saved (s .graph) (now (uppers .exit)) (now (lowers .exit)) (now («saved_low» .exit)) (now («saved_high» .exit)) r)
         ⌝ }

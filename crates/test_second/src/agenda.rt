@@ -13,7 +13,7 @@ use crate::table::byte;
 use crate::table::put;
 use crate::words::put_word;
 use crate::words::word;
-ghost use Prim.Native.Nat.{_+_, _*_, _≤_};
+ghost use Prim.Native.Nat.{_+_, _≤_};
 
 fn leaf_or_top(leaf: usize, n: usize) -> usize {
     if leaf < n { leaf } else { NONE }

@@ -1,12 +1,12 @@
 // Tidies each sheet of the input and tabulates its fragments. A sheet comes with its length, two bytes, before it.
-use sheet_fragments::Table;
-use sheet_fragments::fragment_table;
-use graph::Refusal;
-use libc::STDOUT_FILENO;
 use base_text::hex_line;
 use base_text::refused_line;
+use format::Refusal;
+use libc::STDOUT_FILENO;
 use sheet_encode::Tidied;
 use sheet_encode::tidy;
+use sheet_fragments::Table;
+use sheet_fragments::fragment_table;
 ghost use Prim.Native.Nat.{_≤_, _<_};
 ghost use lib.ListN.{length};
 

@@ -56,7 +56,7 @@ pub fn placed(answer: Placed) -> u8 {
     match answer {
         Placed::Done => 0,
         Placed::NoReading(_) => 9,
-        Placed::Refused(why) => refusal::number(why),
+        Placed::Refused(why) => format::number(why),
     }
 }
 
@@ -73,7 +73,7 @@ pub fn pairs(answer: Placed) -> usize {
 pub fn drawn(answer: Drawn) -> u8 {
     match answer {
         Drawn::Length(_) => 0,
-        Drawn::Refused(why) => refusal::number(why),
+        Drawn::Refused(why) => format::number(why),
     }
 }
 

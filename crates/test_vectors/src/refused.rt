@@ -23,41 +23,41 @@ use counter::configuration;
 use counter::count;
 use counter::drawing;
 use counter::fragment_table;
-use sheet_fragments::Table;
 use sheet_encode::Tidied;
+use sheet_fragments::Table;
 
 fn counted(sheet: &[u8]) -> u8 {
     match count(sheet) {
         Counted::Readings(_) => 0,
-        Counted::Refused(why) => refusal::number(why),
+        Counted::Refused(why) => format::number(why),
     }
 }
 
 fn checked_cycle(sheet: &[u8]) -> u8 {
     match check_cycle(sheet, b"") {
         CycleChecked::Answer(_) => 0,
-        CycleChecked::Refused(why) => refusal::number(why),
+        CycleChecked::Refused(why) => format::number(why),
     }
 }
 
 fn checked_placing(sheet: &[u8]) -> u8 {
     match check_placing(sheet, b"") {
         PlacingChecked::Answers(_) => 0,
-        PlacingChecked::Refused(why) => refusal::number(why),
+        PlacingChecked::Refused(why) => format::number(why),
     }
 }
 
 fn tidied(sheet: &[u8], out: &mut [u8]) -> u8 {
     match counter::tidy(sheet, out) {
         Tidied::Length(_) => 0,
-        Tidied::Refused(why) => refusal::number(why),
+        Tidied::Refused(why) => format::number(why),
     }
 }
 
 fn tabled(sheet: &[u8], out: &mut [u8]) -> u8 {
     match fragment_table(sheet, out) {
         Table::Filled(_) => 0,
-        Table::Refused(why) => refusal::number(why),
+        Table::Refused(why) => format::number(why),
     }
 }
 

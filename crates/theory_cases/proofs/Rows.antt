@@ -8,15 +8,15 @@ use mathlib.Core.Bool.{Bool, true, _&&_}
 use native.Mathlib.Nat.{le-of-suc-le-suc, not-suc-le-zero}
 use Rattle.base_finite.specs.Below.{any, all, count, least, spread, select}
 use Rattle.base_finite.proofs.Laws.{and-both}
-use Rattle.graph.specs.Graph.{among, entered, left, root, leaf, parent, top, own, leafOf}
-use Rattle.graph.specs.Sheet.{outcome, commands, takesTwo, beyond, whole, cyclic, rises, bare, astray}
+use Rattle.graph.specs.Graph.{among, entered, left, root, leaf, parent, top, own, leafOf, cyclic, rises}
+use Rattle.format.specs.Sheet.{outcome, commands, takesTwo, beyond, whole, bare, astray}
 use Rattle.graph.specs.Placing.{hangs}
 use Rattle.graph.specs.Order.{countAnswer}
 use Rattle.graph.specs.Rule1.{problem, up, rise, depth, shallowest, problemLeaf, staying, lowestLeaf, shifted}
 use Rattle.graph.specs.Cycle.{pairs, joined, sameEdge, cycle, dominanceAt, hypernormal, hypernormalCycle}
-use Rattle.graph.specs.Text.{digits, decimal, countLine, readingLine, numbered, printed}
-use Rattle.graph.specs.Drawing.{separated, leafText, fragmentText, drawing}
-use Rattle.theory_list.proofs.Readings.{listed}
+use Rattle.format.specs.Text.{digits, decimal, countLine, readingLine, numbered, printed}
+use Rattle.format.specs.Drawing.{separated, leafText, fragmentText, drawing}
+use Rattle.theory_list.specs.Readings.{listed}
 use Rattle.theory_rule1.proofs.Ending.{configured}
 use Rattle.theory_cases.specs.Table.{Row, rows, AllHold}
 use Rattle.theory_cases.proofs.Tests.{holds?, tested}

@@ -11,20 +11,22 @@ use lib.ListN.{length}
 use borrow.Author.Tests.{eqb-true, leb-true, not-true}
 use Rattle.base_finite.proofs.Laws.{and-both}
 use Rattle.graph.specs.Graph.{Graph}
-use Rattle.graph.specs.Sheet.{Outcome, refused, accepted, outcome}
+use Rattle.format.specs.Sheet.{Outcome, refused, accepted, outcome}
 use Rattle.graph.specs.Placing.{SolvedForm}
 use Rattle.graph.specs.Order.{entry}
 use Rattle.graph.specs.Rule1.{Rule1}
 use Rattle.graph.specs.Cycle.{cycle, hypernormal, hypernormalCycle}
-use Rattle.graph.specs.Drawing.{drawing}
-use Rattle.graph.specs.Refusal.{number}
-use Rattle.graph.specs.declared.Refusal.the-variants.{NoReading}
+use Rattle.format.specs.Drawing.{drawing}
+use Rattle.format.specs.Refusal.{number}
+use Rattle.format.specs.declared.Refusal.the-variants.{NoReading}
 use Rattle.theory_format.proofs.Spelling.{accepted-well-formed}
-use Rattle.theory_forest.proofs.Shape.{Shaped, well-formed-shaped}
-use Rattle.theory_list.proofs.Readings.{listed, listing-exists}
+use Rattle.theory_forest.specs.Shape.{Shaped}
+use Rattle.theory_forest.proofs.Shape.{well-formed-shaped}
+use Rattle.theory_list.specs.Readings.{listed}
+use Rattle.theory_list.proofs.Readings.{listing-exists}
 use Rattle.theory_rule1.proofs.Ending.{configured, configured-reaches, rule1-configuration}
 use Rattle.theory_refutes.proofs.Excludes.{no-both}
-use Rattle.graph.specs.Text.{printed}
+use Rattle.format.specs.Text.{printed}
 use Rattle.theory_cases.specs.Table.{Claim, refusal, no-reading, not-hypernormal, lists, drawn, configured-to, Holds}
 
 -- equal bytes, and equal lines

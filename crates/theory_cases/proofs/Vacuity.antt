@@ -8,17 +8,17 @@ use mathlib.Core.List.{List}
 use native.Mathlib.Omega.{arith}
 use lib.ListN.{length}
 use Rattle.graph.specs.Graph.{Graph, WellFormed}
-use Rattle.graph.specs.Sheet.{outcome, accepted}
+use Rattle.format.specs.Sheet.{outcome, accepted}
 use Rattle.graph.specs.Placing.{SolvedForm, Solvable}
 use Rattle.graph.specs.Order.{Listing, entry}
 use Rattle.graph.specs.Rule1.{Rule1, HandedOut}
-use Rattle.graph.specs.Drawing.{drawing}
-use Rattle.graph.specs.Refusal.{number}
+use Rattle.format.specs.Drawing.{drawing}
+use Rattle.format.specs.Refusal.{number}
 use Rattle.theory_format.proofs.Spelling.{accepted-well-formed}
 use Rattle.theory_forest.proofs.Shape.{well-formed-shaped}
 use Rattle.theory_list.proofs.Readings.{listing-unique}
 use Rattle.theory_rule1.proofs.Ending.{rule1-function}
-use Rattle.graph.specs.Text.{printed}
+use Rattle.format.specs.Text.{printed}
 use Rattle.theory_cases.specs.Table.{refusal, lists, drawn, configured-to, Holds, rows, square, fork, square-placing, ConfiguredTo}
 use Rattle.theory_cases.proofs.Rows.{all-hold}
 

@@ -8,16 +8,16 @@ use mathlib.Core.List.{List, [], _∷_}
 use mathlib.Core.Bool.{true, false}
 use lib.ListN.{length, getD}
 use Rattle.graph.specs.Graph.{Graph}
-use Rattle.graph.specs.Sheet.{outcome, refused, accepted}
+use Rattle.format.specs.Sheet.{outcome, refused, accepted}
 use Rattle.graph.specs.Placing.{Configuration, Solvable}
 use Rattle.graph.specs.Order.{Listing, entry}
 use Rattle.graph.specs.Rule1.{HandedOut}
 use Rattle.graph.specs.Cycle.{cycle, hypernormal, hypernormalCycle}
-use Rattle.graph.specs.Text.{printed}
-use Rattle.graph.specs.Drawing.{drawing}
-use Rattle.graph.specs.Refusal.{number}
-use Rattle.graph.specs.declared.Refusal.{Refusal}
-use Rattle.graph.specs.declared.Refusal.the-variants.{NoReading}
+use Rattle.format.specs.Text.{printed}
+use Rattle.format.specs.Drawing.{drawing}
+use Rattle.format.specs.Refusal.{number}
+use Rattle.format.specs.declared.Refusal.{Refusal}
+use Rattle.format.specs.declared.Refusal.the-variants.{NoReading}
 
 -- What is claimed of a sheet.
 pub data Claim : Type 0 where

@@ -6,12 +6,11 @@ use mathlib.Core.List.{List}
 use mathlib.Core.Logic.{inl, inr, ⊎-elim}
 use Rattle.graph.specs.Graph.{Edge, Graph, root, leaf, TreeEdge, DominanceEdge}
 use Rattle.graph.specs.Placing.{placing, hangs, SolvedForm, Solvable}
-use Rattle.theory_forest.proofs.Shape.{Shaped, same-trees}
+use Rattle.theory_forest.specs.Shape.{Shaped}
+use Rattle.theory_forest.proofs.Shape.{same-trees}
 use Rattle.theory_forest.proofs.Closure.{path-map}
-use Rattle.theory_forest.proofs.Table.{Among}
-
-abbrev pub alone : Graph → List Edge → Graph
-alone g es = record { nodes = g .nodes; tree = g .tree; dominance = es }
+use Rattle.theory_forest.specs.Table.{Among}
+use Rattle.theory_cycle.specs.Alone.{alone}
 
 module _ (g : Graph) (es : List Edge) (inside : (l r : ℕ) → Among es l r → DominanceEdge g l r) where
   pub alone-shaped : Shaped g → Shaped (alone g es)

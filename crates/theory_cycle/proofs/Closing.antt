@@ -12,10 +12,10 @@ use lib.ListN.{length, getD, List·getD-eq-default}
 use Rattle.base_finite.proofs.Laws.{by-bool, or-left, or-right, or-cases}
 use Rattle.graph.specs.Graph.{Graph, among, TreeEdge}
 use Rattle.graph.specs.Cycle.{pairs, node, kind, hypernormalCycle}
-use Rattle.theory_forest.proofs.Shape.{Shaped}
+use Rattle.theory_forest.specs.Shape.{Shaped}
 use Rattle.theory_forest.proofs.Fragments.{leaf-not-root}
 use Rattle.theory_ring.proofs.Ways.{_∉_}
-use Rattle.theory_cycle.proofs.Connected.{Connected}
+use Rattle.theory_cycle.specs.Connected.{Connected}
 use Rattle.theory_cycle.proofs.Trails.{EitherWay, Trail, here, along, simple-trail, trail-start, trail-steps, trail-different}
 use Rattle.theory_cycle.proofs.Spelt.{Step, Spelt, Sparse, spelt-hypernormal}
 

@@ -3,11 +3,7 @@
 -- no edge leads out of either way, holds whatever is connected with u.
 use Prim.Native.Nat.{ℕ}
 use Rattle.graph.specs.Graph.{Path, one, more}
-
-pub data Connected (E : ℕ → ℕ → Type 0) : ℕ → ℕ → Type 0 where
-  same : {u : ℕ} → Connected E u u
-  forth : {u v w : ℕ} → Connected E u v → E v w → Connected E u w
-  back : {u v w : ℕ} → Connected E u v → E w v → Connected E u w
+use Rattle.theory_cycle.specs.Connected.{Connected, same, forth, back}
 
 pub connected-trans : {E : ℕ → ℕ → Type 0} {u v w : ℕ} → Connected E u v → Connected E v w → Connected E u w
 connected-trans c same = c

@@ -8,13 +8,14 @@ use mathlib.Core.Bool.{true}
 use mathlib.Core.Logic.{inl, inr, ⊎-elim}
 use Rattle.graph.specs.Graph.{Edge, Graph, own, TreeEdge, DominanceEdge, Path}
 use Rattle.graph.specs.Cycle.{hypernormalCycle}
-use Rattle.theory_forest.proofs.Shape.{Shaped}
-use Rattle.theory_forest.proofs.Table.{Among}
+use Rattle.theory_forest.specs.Shape.{Shaped}
+use Rattle.theory_forest.specs.Table.{Among}
 use Rattle.theory_forest.proofs.Fragments.{own-above}
 use Rattle.theory_ring.proofs.Ways.{Colour, out, into, _∈_, Way, stop, step}
 use Rattle.theory_ring.proofs.Cuts.{Extra}
 use Rattle.theory_ring.proofs.Fragments.{Joined, FragmentRing}
-use Rattle.theory_cycle.proofs.Connected.{Connected, same, forth, back, connected-trans, connected-sym, path-connected}
+use Rattle.theory_cycle.specs.Connected.{Connected, same, forth, back}
+use Rattle.theory_cycle.proofs.Connected.{connected-trans, connected-sym, path-connected}
 use Rattle.theory_cycle.proofs.Closing.{TreeOr, connected-cycle}
 use Rattle.theory_cycle.proofs.Thin.{Elsewhere, Thin, after-hop, thinned}
 

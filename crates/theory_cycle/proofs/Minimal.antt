@@ -10,19 +10,22 @@ use native.Mathlib.Decide.{ℕ-discrete}
 use Rattle.graph.specs.Graph.{Edge, Graph, own, DominanceEdge}
 use Rattle.graph.specs.Order.{without, removed}
 use Rattle.graph.specs.Placing.{Solvable}
-use Rattle.theory_forest.proofs.Shape.{Shaped, without-among, removed-shaped}
-use Rattle.theory_forest.proofs.Table.{Among}
+use Rattle.theory_forest.specs.Shape.{Shaped}
+use Rattle.theory_forest.proofs.Shape.{without-among, removed-shaped}
+use Rattle.theory_forest.specs.Table.{Among}
 use Rattle.theory_ring.proofs.Ways.{out, into, Way, step, ring, way-map}
 use Rattle.theory_ring.proofs.Cuts.{Arc}
 use Rattle.theory_ring.proofs.Fragments.{Joined, FragmentRing, OneMore, opened-at-edge}
 use Rattle.theory_list.proofs.Redundancy.{without-lacks, without-keeps}
 use Rattle.theory_cycle.proofs.Unsolvable.{unsolvable-ring}
-use Rattle.theory_cycle.proofs.Connected.{Connected, connected-trans}
+use Rattle.theory_cycle.specs.Connected.{Connected}
+use Rattle.theory_cycle.proofs.Connected.{connected-trans}
 use Rattle.theory_cycle.proofs.Spelt.{Sparse}
 use Rattle.theory_cycle.proofs.Closing.{TreeOr}
 use Rattle.theory_cycle.proofs.Thin.{elsewhere}
 use Rattle.theory_cycle.proofs.Lift.{own-connected, way-connected, ring-opened}
-use Rattle.theory_cycle.proofs.Alone.{alone, alone-solvable}
+use Rattle.theory_cycle.specs.Alone.{alone}
+use Rattle.theory_cycle.proofs.Alone.{alone-solvable}
 use Rattle.theory_cycle.proofs.RingExcludes.{ring-unsolvable}
 
 -- no solved form, and one without any of the edges

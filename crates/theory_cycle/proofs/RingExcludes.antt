@@ -5,12 +5,13 @@ use Prim.Native.Nat.{ℕ}
 use mathlib.Core.List.{List}
 use Rattle.graph.specs.Graph.{Edge, Graph, own, DominanceEdge}
 use Rattle.graph.specs.Placing.{SolvedForm, Solvable}
-use Rattle.theory_forest.proofs.Shape.{Shaped}
-use Rattle.theory_forest.proofs.Table.{Among}
+use Rattle.theory_forest.specs.Shape.{Shaped}
+use Rattle.theory_forest.specs.Table.{Among}
 use Rattle.theory_ring.proofs.Fragments.{FragmentRing}
 use Rattle.theory_refutes.proofs.Excludes.{cycle-excludes}
 use Rattle.theory_cycle.proofs.Lift.{ring-cycle}
-use Rattle.theory_cycle.proofs.Alone.{alone, alone-shaped}
+use Rattle.theory_cycle.specs.Alone.{alone}
+use Rattle.theory_cycle.proofs.Alone.{alone-shaped}
 
 pub ring-excludes : (g : Graph) (p : List ℕ) → Shaped g → FragmentRing (own g) (DominanceEdge g) → SolvedForm g p → ⊥
 ring-excludes g p s c o = let b = ring-cycle g s c in cycle-excludes g (b .0) p s (b .1) o

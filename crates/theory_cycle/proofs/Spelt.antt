@@ -17,7 +17,7 @@ use Rattle.base_finite.proofs.Laws.{by-bool, or-left, or-right, all-every}
 use Rattle.graph.specs.Graph.{Graph, among, leaf, TreeEdge, DominanceEdge}
 use Rattle.graph.specs.Cycle.{pairs, node, kind, next, joined, sameEdge, cycle, dominanceAt, hypernormal, hypernormalCycle}
 use Rattle.base_finite.proofs.Counting.{count-one, all-apart}
-use Rattle.theory_forest.proofs.Shape.{Shaped}
+use Rattle.theory_forest.specs.Shape.{Shaped}
 use Rattle.theory_forest.proofs.Closure.{Adding}
 use Rattle.theory_forest.proofs.Fragments.{leaf-not-root}
 use Rattle.theory_refutes.proofs.Cycles.{same-edge, dominance-at}

@@ -9,15 +9,16 @@ use mathlib.Core.Logic.{_↔_, dite}
 use Rattle.graph.specs.Graph.{Edge, Graph, own, DominanceEdge}
 use Rattle.graph.specs.Cycle.{hypernormalCycle}
 use Rattle.graph.specs.Placing.{Solvable}
-use Rattle.theory_format.proofs.Edges.{among-first, among-rest}
-use Rattle.theory_forest.proofs.Shape.{Shaped}
+use Rattle.theory_edges.proofs.Edges.{among-first, among-rest}
+use Rattle.theory_forest.specs.Shape.{Shaped}
 use Rattle.theory_ring.proofs.Fragments.{FragmentRing}
 use Rattle.theory_refutes.proofs.Excludes.{cycle-excludes}
 use Rattle.theory_list.proofs.Readings.{solvable-decided}
 use Rattle.theory_cycle.proofs.Unsolvable.{unsolvable-ring}
 use Rattle.theory_cycle.proofs.Thin.{Thin, thin-more}
 use Rattle.theory_cycle.proofs.Lift.{Opened, ring-opened, opened-cycle, ring-cycle}
-use Rattle.theory_cycle.proofs.Alone.{alone, alone-shaped, alone-solvable}
+use Rattle.theory_cycle.specs.Alone.{alone}
+use Rattle.theory_cycle.proofs.Alone.{alone-shaped, alone-solvable}
 
 -- "a hypernormal subgraph": the edges es of g, one at most at each leaf, with g's tree
 abbrev pub HypernormalSubgraph : Graph → List Edge → Type 0

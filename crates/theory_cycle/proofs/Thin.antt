@@ -6,8 +6,8 @@ use mathlib.Core.Path.{_≡_, refl, sym, _∙_}
 use mathlib.Core.List.{List, [], _∷_, List·Memᴰ·head, List·Memᴰ·tail, Memᴰ·cast}
 use mathlib.Core.Logic.{_≢_, ⊎-elim}
 use Rattle.graph.specs.Graph.{Edge}
-use Rattle.theory_format.proofs.Edges.{among-cases, among-first, among-rest, among-none}
-use Rattle.theory_forest.proofs.Table.{Among}
+use Rattle.theory_edges.proofs.Edges.{among-cases, among-first, among-rest, among-none}
+use Rattle.theory_forest.specs.Table.{Among}
 use Rattle.theory_ring.proofs.Ways.{Colour, out, into, _∉_, Way, stop, step, way-map, not-left}
 use Rattle.theory_ring.proofs.Cuts.{Extra}
 use Rattle.theory_ring.proofs.Fragments.{Joined}

@@ -10,7 +10,7 @@ use native.Mathlib.Nat.{le-of-suc-le-suc}
 use native.Mathlib.Decide.{ℕ-discrete}
 use lib.ListN.{length, getD}
 use Rattle.theory_ring.proofs.Ways.{_∈_, _∉_, is-passed}
-use Rattle.theory_cycle.proofs.Connected.{Connected, same, forth, back}
+use Rattle.theory_cycle.specs.Connected.{Connected, same, forth, back}
 
 -- an edge taken either way
 abbrev pub EitherWay : (ℕ → ℕ → Type 0) → ℕ → ℕ → Type 0

@@ -9,8 +9,8 @@ use native.Mathlib.Omega.{arith}
 use Rattle.graph.specs.Graph.{Graph, TreeEdge, DominanceEdge, GraphEdge, Descent, Path, one, more, own}
 use Rattle.graph.specs.Order.{Choice, adding}
 use Rattle.graph.specs.Placing.{Solvable}
-use Rattle.theory_format.proofs.Edges.{among-cases}
-use Rattle.theory_forest.proofs.Shape.{Shaped}
+use Rattle.theory_edges.proofs.Edges.{among-cases}
+use Rattle.theory_forest.specs.Shape.{Shaped}
 use Rattle.theory_forest.proofs.Fragments.{own-edge, own-of-root}
 use Rattle.theory_list.proofs.Induction.{unsolvable-induction}
 use Rattle.theory_ring.proofs.Directed.{Walk, walk-more}

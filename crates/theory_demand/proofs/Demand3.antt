@@ -6,12 +6,14 @@ use native.Mathlib.Omega.{arith}
 use lib.ListN.{length, take}
 use lib.Seq.{take-length}
 use Rattle.graph.specs.Graph.{Graph}
-use Rattle.graph.specs.Sheet.{Outcome, outcome, accepted}
+use Rattle.format.specs.Sheet.{Outcome, outcome, accepted}
 use Rattle.graph.specs.Placing.{Below, Contains}
 use Rattle.graph.specs.Order.{Listing}
 use Rattle.theory_format.proofs.Spelling.{accepted-well-formed}
-use Rattle.theory_forest.proofs.Shape.{Shaped, well-formed-shaped}
-use Rattle.theory_list.proofs.Readings.{listed, listing-exists, listing-unique, one-below}
+use Rattle.theory_forest.specs.Shape.{Shaped}
+use Rattle.theory_forest.proofs.Shape.{well-formed-shaped}
+use Rattle.theory_list.specs.Readings.{listed}
+use Rattle.theory_list.proofs.Readings.{listing-exists, listing-unique, one-below}
 use Rattle.theory_refutes.proofs.Excludes.{no-both}
 use Rattle.counter.specs.Calls.{reach, CountOf, ReadingOf, ConfigurationOf, DrawingOf}
 use Rattle.theory_demand.specs.Demand.{Call, Chain, handedOut, lentEnough, least, ExactlyOne, Demand3}

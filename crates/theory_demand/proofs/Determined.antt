@@ -9,8 +9,8 @@ use lib.ListN.{length, drop}
 use Rattle.graph.specs.Graph.{Graph}
 use Rattle.graph.specs.Order.{Listing, entry, countAnswer}
 use Rattle.graph.specs.Rule1.{Rule1, HandedOut}
-use Rattle.graph.specs.Drawing.{drawing}
-use Rattle.theory_forest.proofs.Shape.{Shaped}
+use Rattle.format.specs.Drawing.{drawing}
+use Rattle.theory_forest.specs.Shape.{Shaped}
 use Rattle.theory_list.proofs.Readings.{listing-unique}
 use Rattle.theory_rule1.proofs.Ending.{rule1-function}
 use Rattle.counter.specs.Calls.{Unsolvable, reach, placedNumber, Counts, ReadingCall, ConfigurationCall, DrawingCall}

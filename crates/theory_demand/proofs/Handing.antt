@@ -12,9 +12,9 @@ use lib.ListN.{length, take, drop}
 use lib.Seq.{take-at, drop-cons}
 use borrow.Author.Tests.{le-leb, lt-leb}
 use Rattle.graph.specs.Graph.{Graph}
-use Rattle.graph.specs.Sheet.{accepted}
+use Rattle.format.specs.Sheet.{accepted}
 use Rattle.graph.specs.Order.{Listing, entry}
-use Rattle.theory_forest.proofs.Shape.{Shaped}
+use Rattle.theory_forest.specs.Shape.{Shaped}
 use Rattle.theory_list.proofs.Readings.{listing-unique, listing-exists, unsolvable-empty}
 use Rattle.counter.specs.Calls.{Unsolvable, reach, ReadingCall}
 use Rattle.counter.specs.declared.Placed.{Placed}

@@ -15,15 +15,17 @@ use borrow.Author.Tests.{eqb-true, leb-true, leb-false}
 use Rattle.base_finite.specs.Below.{all}
 use Rattle.base_finite.proofs.Laws.{by-bool, and-both}
 use Rattle.graph.specs.Graph.{Graph}
-use Rattle.graph.specs.Sheet.{Outcome, accepted, outcome}
+use Rattle.format.specs.Sheet.{Outcome, accepted, outcome}
 use Rattle.graph.specs.Placing.{Solvable}
 use Rattle.graph.specs.Order.{entry}
 use Rattle.graph.specs.Cycle.{pairs, node, kind, next, joined, sameEdge, cycle}
-use Rattle.theory_format.proofs.Pigeonhole.{pigeonhole}
+use Rattle.theory_edges.proofs.Pigeonhole.{pigeonhole}
 use Rattle.theory_format.proofs.Spelling.{accepted-well-formed}
-use Rattle.theory_forest.proofs.Shape.{Shaped, well-formed-shaped}
+use Rattle.theory_forest.specs.Shape.{Shaped}
+use Rattle.theory_forest.proofs.Shape.{well-formed-shaped}
 use Rattle.theory_forest.proofs.Table.{graph-edge-within}
-use Rattle.theory_list.proofs.Readings.{listed, listing-exists, one-below, solvable-decided}
+use Rattle.theory_list.specs.Readings.{listed}
+use Rattle.theory_list.proofs.Readings.{listing-exists, one-below, solvable-decided}
 use Rattle.theory_rule1.proofs.Ending.{rule1-ends}
 use Rattle.theory_refutes.proofs.Cycles.{Joined, CycleFacts, cycle-facts, hypernormal-cycle}
 use Rattle.theory_cycle.proofs.Theorem62.{unsolvable-cycle}

@@ -11,12 +11,12 @@ use Rattle.graph.specs.Graph.{Graph}
 use Rattle.graph.specs.Placing.{Configuration, Solvable}
 use Rattle.graph.specs.Order.{Listing, entry}
 use Rattle.graph.specs.Rule1.{HandedOut}
-use Rattle.theory_forest.proofs.Shape.{Shaped}
+use Rattle.theory_forest.specs.Shape.{Shaped}
 use Rattle.theory_forest.proofs.Forests.{hanging-solved, placing-length}
 use Rattle.theory_list.proofs.Readings.{solvable-reading}
 use Rattle.theory_rule1.proofs.Ending.{rule1-configuration}
 use Rattle.counter.specs.Calls.{Unsolvable, countNumber, placedNumber, drawnNumber, Counts, ReadingCall, ConfigurationCall, DrawingCall}
-use Rattle.graph.specs.declared.Refusal.the-variants.{NoReading as No-reading}
+use Rattle.format.specs.declared.Refusal.the-variants.{NoReading as No-reading}
 use Rattle.counter.specs.declared.Counted.{Counted}
 use Rattle.counter.specs.declared.Counted.the-variants.{Refused as CountRefused}
 use Rattle.counter.specs.declared.Placed.{Placed}

@@ -12,11 +12,11 @@ use borrow.Author.Tests.{ltb-true, ltb-false}
 use Rattle.base_finite.proofs.Laws.{by-bool}
 use Rattle.graph.specs.Graph.{Graph}
 use Rattle.graph.specs.Order.{Listing, entry}
-use Rattle.theory_forest.proofs.Shape.{Shaped}
+use Rattle.theory_forest.specs.Shape.{Shaped}
 use Rattle.theory_forest.proofs.Forests.{placing-length}
 use Rattle.theory_list.proofs.Readings.{listing-unique}
-use Rattle.stretch.specs.Stretch.{placings}
-use Rattle.stretch.proofs.Placings.{placings-grow}
+use Rattle.solve_stretch.specs.Stretch.{placings}
+use Rattle.solve_stretch.proofs.Placings.{placings-grow}
 use Rattle.counter.specs.Calls.{reach, StretchCall}
 use Rattle.counter.specs.declared.Placed.{Placed}
 use Rattle.theory_demand.proofs.Determined.{Same, same-bytes, has-none, reaches}

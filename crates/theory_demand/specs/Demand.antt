@@ -9,7 +9,7 @@ use mathlib.Core.Logic.{_↔_}
 use lib.Dec.{leb}
 use lib.ListN.{length, take}
 use Rattle.graph.specs.Graph.{Graph}
-use Rattle.graph.specs.Sheet.{Outcome, outcome}
+use Rattle.format.specs.Sheet.{Outcome, outcome}
 use Rattle.graph.specs.Placing.{Below, Contains, SolvedForm, Configuration, Hanging}
 use Rattle.graph.specs.Order.{Listing, entry}
 use Rattle.graph.specs.Cycle.{hypernormalCycle}

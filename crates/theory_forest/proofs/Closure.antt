@@ -6,7 +6,7 @@ use mathlib.Core.Path.{_≡_, refl, sym, subst}
 use mathlib.Core.Logic.{_⊎_, inl, inr, ⊎-elim, _↔_}
 use Rattle.graph.specs.Graph.{Graph, TreeEdge, DominanceEdge, GraphEdge, Descent, Path, one, more}
 use Rattle.graph.specs.Order.{adding, removed}
-use Rattle.theory_format.proofs.Edges.{among-cases, among-first, among-rest}
+use Rattle.theory_edges.proofs.Edges.{among-cases, among-first, among-rest}
 use Rattle.theory_forest.proofs.Shape.{without-among}
 
 pub path-trans : {E : ℕ → ℕ → Type 0} {u v w : ℕ} → Path E u v → Path E v w → Path E u w

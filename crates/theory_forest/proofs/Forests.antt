@@ -16,8 +16,8 @@ use Rattle.base_finite.proofs.Laws.{and-both, or-cases, all-at}
 use Rattle.graph.specs.Graph.{Graph, root, leaf, none, own, TreeEdge, DominanceEdge, GraphEdge, Descent, Path, one, more}
 use Rattle.graph.specs.Order.{adding}
 use Rattle.graph.specs.Placing.{at, placing, hangs, PlacingEdge, Below, Forest, Contains, SolvedForm, Hanging}
-use Rattle.theory_format.proofs.Edges.{one-parent}
-use Rattle.theory_forest.proofs.Shape.{Shaped}
+use Rattle.theory_edges.proofs.Edges.{one-parent}
+use Rattle.theory_forest.specs.Shape.{Shaped}
 use Rattle.theory_forest.proofs.Closure.{path-trans, path-map, path-lift, path-first, path-last, graph-edge-added, descent-added, added-edge}
 use Rattle.theory_forest.proofs.Table.{hangs-parts, hangs-intro}
 use Rattle.theory_forest.proofs.Fragments.{leaf-childless, root-parentless, own-above, own-edge, own-of-root, leaf-below-own}

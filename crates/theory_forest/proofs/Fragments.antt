@@ -11,13 +11,12 @@ use native.Mathlib.Omega.{arith}
 use lib.Dec.{eqb, ltb}
 use borrow.Author.Tests.{lt-ltb, eqb-true, eq-eqb, not-true}
 use Rattle.base_finite.proofs.Laws.{by-bool, and-both, and-intro, any-false, not-holding}
-use Rattle.graph.specs.Graph.{Edge, Graph, entered, left, parent, top, root, leaf, own, leafOf, TreeEdge, Path, one, more}
-use Rattle.graph.specs.Sheet.{rises, cyclic}
+use Rattle.graph.specs.Graph.{Edge, Graph, entered, left, parent, top, root, leaf, own, leafOf, TreeEdge, Path, one, more, rises, cyclic}
 use Rattle.graph.specs.Order.{adding, removed}
-use Rattle.theory_format.proofs.Edges.{entered-of-among, left-of-among, left-found, parent-among, parent-only}
-use Rattle.theory_format.proofs.Cyclic.{cycle-of-cyclic}
-use Rattle.theory_format.proofs.Spelling.{leaf-below, root-below}
-use Rattle.theory_forest.proofs.Shape.{Shaped}
+use Rattle.theory_edges.proofs.Edges.{entered-of-among, left-of-among, left-found, parent-among, parent-only}
+use Rattle.theory_edges.proofs.Cyclic.{cycle-of-cyclic}
+use Rattle.theory_edges.proofs.Ends.{leaf-below, root-below}
+use Rattle.theory_forest.specs.Shape.{Shaped}
 use Rattle.theory_forest.proofs.Closure.{path-cons, path-within}
 
 -- leaves and roots

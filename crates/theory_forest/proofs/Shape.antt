@@ -1,23 +1,16 @@
 -- What the theorems ask of a graph: that it is a dominance graph (Definition 4.1), whatever the number of its dominance
 -- edges. Unlike `WellFormed` this stays so when Rule 3 adds an edge or an edge is taken away.
-use Prim.Native.Nat.{ℕ, _≤_, _<_}
-use mathlib.Core.Path.{_≡_, refl, sym, _∙_}
+use Prim.Native.Nat.{ℕ}
+use mathlib.Core.Path.{_≡_}
 use mathlib.Core.List.{List, [], _∷_}
-use mathlib.Core.Bool.{Bool, true, false, cond, _&&_, _||_}
-use mathlib.Core.Logic.{_⊎_, inl, inr, ⊎-elim}
+use mathlib.Core.Bool.{true, _&&_}
+use mathlib.Core.Logic.{_⊎_, ⊎-elim}
 use lib.Dec.{eqb}
 use Rattle.base_finite.proofs.Laws.{by-bool}
-use Rattle.graph.specs.Graph.{Edge, Graph, among, entered, left, single, root, leaf, TreeEdge, DominanceEdge, Path, WellFormed}
+use Rattle.graph.specs.Graph.{Edge, Graph, among, root, leaf, DominanceEdge, WellFormed}
 use Rattle.graph.specs.Order.{without, removed, adding}
-use Rattle.theory_format.proofs.Edges.{among-cases, among-first, among-rest}
-
-pub record Shaped (g : Graph) : Type 0 where
-  pub few-nodes : g .nodes ≤ 128
-  pub tree-within : (p c : ℕ) → TreeEdge g p c → (p < g .nodes) × (c < g .nodes)
-  pub one-parent : single (g .tree) ≡ true
-  pub no-tree-cycle : (v : ℕ) → Path (TreeEdge g) v v → ⊥
-  pub on-tree-edge : (v : ℕ) → v < g .nodes → (entered (g .tree) v || left (g .tree) v) ≡ true
-  pub leaf-to-root : (l r : ℕ) → DominanceEdge g l r → (leaf g l ≡ true) × (root g r ≡ true)
+use Rattle.theory_edges.proofs.Edges.{among-cases, among-first, among-rest}
+use Rattle.theory_forest.specs.Shape.{Shaped}
 
 pub well-formed-shaped : {g : Graph} → WellFormed g → Shaped g
 well-formed-shaped w =

@@ -12,73 +12,16 @@ use native.Mathlib.Nat.{le-of-suc-le-suc}
 use lib.Dec.{eqb, ltb}
 use lib.ListN.{getD}
 use borrow.Author.Tests.{ltb-true, ltb-false, eqb-true, eq-eqb, not-true}
-use Rattle.base_finite.specs.Below.{all, spread}
 use Rattle.base_finite.proofs.Laws.{by-bool, or-left, or-right, or-cases, and-both, and-intro, any-at, any-found, all-at, all-every, not-holding}
-use Rattle.graph.specs.Graph.{Edge, Graph, among, entered, left, root, leaf, TreeEdge, DominanceEdge, GraphEdge, Descent, Path, one, more}
+use Rattle.graph.specs.Graph.{Edge, Graph, among, root, leaf, TreeEdge, DominanceEdge, GraphEdge, Descent, Path, one, more}
 use Rattle.graph.specs.Placing.{at, hangs, PlacingEdge, Below}
-use Rattle.theory_format.proofs.Edges.{Within, within-cons, among-cases, among-first, among-rest, among-none}
-use Rattle.theory_format.proofs.Tables.{among-append, among-spread}
-use Rattle.theory_format.proofs.Spelling.{leaf-below, root-below}
-use Rattle.theory_forest.proofs.Shape.{Shaped}
+use Rattle.theory_edges.specs.Edges.{Within}
+use Rattle.theory_edges.proofs.Edges.{within-cons, among-cases, among-first, among-rest, among-none}
+use Rattle.theory_edges.proofs.Tables.{among-append, among-spread}
+use Rattle.theory_edges.proofs.Ends.{leaf-below, root-below}
+use Rattle.theory_forest.specs.Shape.{Shaped}
 use Rattle.theory_forest.proofs.Closure.{Adding, Reached, path-map, path-within, adding-closure}
-
--- f 0, f 1, .., f (n - 1)
-unfoldable pub listed : {A : Type 0} → ℕ → (ℕ → A) → List A
-listed zero f = []
-listed (suc n) f = f 0 ∷ listed n (λ k. f (suc k))
-
-unfoldable pub tabulate : ℕ → (ℕ → ℕ → Bool) → List (List Bool)
-unfolding listed
-tabulate n f = listed n (λ u. listed n (f u))
-
--- what the table says of u and v, and false outside it
-unfoldable pub look : List (List Bool) → ℕ → ℕ → Bool
-look m u v = getD (getD m u []) v false
-
--- from u to v as the table says, or by way of the edge e
-unfoldable pub reaches : List (List Bool) → Edge → ℕ → ℕ → Bool
-unfolding look
-reaches m e u v = look m u v || (eqb u (e .0) || look m u (e .0)) && (eqb v (e .1) || look m (e .1) v)
-
--- the table of a closure with one edge more
-unfoldable pub extended : ℕ → Edge → List (List Bool) → List (List Bool)
-unfolding tabulate reaches
-extended n e m = tabulate n (reaches m e)
-
-unfoldable pub closure : ℕ → List Edge → List (List Bool)
-unfolding tabulate extended
-closure n [] = tabulate n (λ u v. false)
-closure n (e ∷ es) = extended n e (closure n es)
-
-unfoldable pub descentTable : Graph → List (List Bool)
-unfolding closure
-descentTable g = closure (g .nodes) (g .tree ++ g .dominance)
-
-unfoldable pub descends : Graph → ℕ → ℕ → Bool
-unfolding descentTable look
-descends g u v = look (descentTable g) u v
-
--- an edge from each leaf to each root hung under it
-unfoldable pub hangings : Graph → List ℕ → List Edge
-unfolding spread hangs root leaf entered left
-hangings g p = spread (g .nodes) (λ r. cond (hangs g p (at p r) r) ((at p r, r) ∷ []) [])
-
-unfoldable pub placingTable : Graph → List ℕ → List (List Bool)
-unfolding closure hangings
-placingTable g p = closure (g .nodes) (g .tree ++ hangings g p)
-
-unfoldable pub under : Graph → List ℕ → ℕ → ℕ → Bool
-unfolding placingTable look
-under g p u v = look (placingTable g p) u v
-
--- no number below n has itself in its row
-unfoldable pub irreflexive : ℕ → List (List Bool) → Bool
-unfolding all look
-irreflexive n m = all n (λ u. not (look m u u))
-
-unfoldable pub acyclic : Graph → Bool
-unfolding irreflexive descentTable
-acyclic g = irreflexive (g .nodes) (descentTable g)
+use Rattle.theory_forest.specs.Table.{listed, tabulate, look, reaches, extended, closure, descentTable, descends, hangings, placingTable, under, irreflexive, acyclic, Among}
 
 -- a test and what it says, joined
 
@@ -133,10 +76,6 @@ closure-within n [] u v h = tabulate-within n (λ u v. false) u v h
 closure-within n (e ∷ es) u v h = tabulate-within n (reaches (closure n es) e) u v h
 
 -- the closure of a list
-
--- the list's edges, as a relation
-abbrev pub Among : List Edge → ℕ → ℕ → Type 0
-Among es u v = among es u v ≡ true
 
 among-adding : (e : Edge) (es : List Edge) (u v : ℕ) → Among (e ∷ es) u v ↔ Adding (Among es) (e .0) (e .1) u v
 among-adding e es u v = (

@@ -5,17 +5,19 @@
 use Prim.Native.Nat.{ℕ, _≤_, _<_}
 use mathlib.Core.Path.{_≡_, refl, sym, subst, ap, _∙_}
 use mathlib.Core.List.{List, [], _∷_}
-use mathlib.Core.Bool.{true, false, cond, not, _&&_, _||_}
+use mathlib.Core.Bool.{true, false, cond, _&&_, _||_}
 use mathlib.Core.Logic.{⊎-elim}
 use native.Mathlib.Omega.{arith}
-use lib.Dec.{eqb, ltb, leb}
+use lib.Dec.{eqb, leb}
 use lib.ListN.{length}
-use borrow.Author.Tests.{eqb-true, ltb-true, leb-true, leb-false, le-leb, lt-leb, ne-eqb}
+use borrow.Author.Tests.{eqb-true, leb-true, leb-false, le-leb, lt-leb, ne-eqb}
 use Rattle.base_finite.proofs.Laws.{by-bool, or-none, and-both}
-use Rattle.graph.specs.Graph.{Edge, Graph, among, entered, left, distinct, single, root, leaf, TreeEdge, one, WellFormed}
-use Rattle.graph.specs.Sheet.{Outcome, refused, accepted, whole, takesTwo, beyond, commands, outcome, EdgeCommand, tree-edge, dominance-edge, spelt, written, sheet, spells}
-use Rattle.graph.specs.declared.Refusal.the-variants.{Missing, Command, Range, Tree, Repeated, TooMany}
-use Rattle.theory_format.proofs.Edges.{Within, among-cases, among-first, among-rest, among-none, single-cons, distinct-cons}
+use Rattle.graph.specs.Graph.{Edge, Graph, among, entered, distinct, single, TreeEdge, one, WellFormed}
+use Rattle.format.specs.Sheet.{Outcome, refused, accepted, whole, takesTwo, beyond, commands, outcome, EdgeCommand, tree-edge, dominance-edge, spelt, written, sheet, spells}
+use Rattle.format.specs.declared.Refusal.the-variants.{Missing, Command, Range, Tree, Repeated, TooMany}
+use Rattle.theory_edges.specs.Edges.{Within}
+use Rattle.theory_edges.proofs.Ends.{dominance-within}
+use Rattle.theory_edges.proofs.Edges.{among-cases, among-first, among-rest, among-none, single-cons, distinct-cons}
 use Rattle.theory_format.proofs.Whole.{Taken, not-refused, passed, whole-same, well-formed-of-whole, whole-of-well-formed}
 
 -- what the commands take
@@ -195,19 +197,6 @@ length-before n t d (dominance-edge l r ∷ cs) = omega (arith, length-before n 
 within-beyond : (n x y : ℕ) → x < n → y < n → beyond n x y ≡ false
 unfolding beyond
 within-beyond n x y a b = rw (lt-leb n x a, lt-leb n y b)
-
-pub leaf-below : (g : Graph) (v : ℕ) → leaf g v ≡ true → v < g .nodes
-unfolding leaf
-leaf-below g v h = ltb-true v (g .nodes) (and-both (ltb v (g .nodes)) (not (left (g .tree) v)) h .0)
-
-pub root-below : (g : Graph) (v : ℕ) → root g v ≡ true → v < g .nodes
-unfolding root
-root-below g v h = ltb-true v (g .nodes) (and-both (ltb v (g .nodes)) (not (entered (g .tree) v)) h .0)
-
-pub dominance-within : (g : Graph) → WellFormed g → Within (g .nodes) (g .dominance)
-dominance-within g w l r h =
-    let b = w .leaf-to-root l r h in
-    (leaf-below g l (b .0), root-below g r (b .1))
 
 spelt-accepted : (n : ℕ) (t d : List Edge) (cs : List EdgeCommand) → WellFormed (written n t d cs) → commands n t d (spelt cs) ≡ accepted (written n t d cs)
 unfolding commands spelt written

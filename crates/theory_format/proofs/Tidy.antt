@@ -11,12 +11,14 @@ use lib.ListN.{length, length-append, length-reverse}
 use Rattle.base_finite.specs.Below.{count, spread}
 use Rattle.base_finite.proofs.Laws.{by-bool, spread-ext, count-none, count-one-more, not-holding, test-ext}
 use Rattle.graph.specs.Graph.{Edge, Graph, among, entered, distinct, single, parent, WellFormed, Agree}
-use Rattle.graph.specs.Sheet.{accepted, outcome, EdgeCommand, tree-edge, dominance-edge, spelt, written, sheet, spells, tidyTree, tidyDominance, tidy}
-use Rattle.theory_format.proofs.Edges.{Within, among-unentered, parent-among, parent-only, one-parent, sum, sum-ext, same-length}
+use Rattle.format.specs.Sheet.{accepted, outcome, EdgeCommand, tree-edge, dominance-edge, spelt, written, sheet, spells, tidyTree, tidyDominance, tidy}
+use Rattle.theory_edges.specs.Edges.{Within, sum}
+use Rattle.theory_edges.proofs.Edges.{among-unentered, parent-among, parent-only, one-parent, sum-ext, same-length}
 use Rattle.theory_format.proofs.Whole.{accepted-same}
-use Rattle.theory_format.proofs.Spelling.{accepted-well-formed, spells-accepted, dominance-within}
-use Rattle.theory_format.proofs.Tables.{among-reverse, distinct-reverse, single-of-distinct, cell, row, table, among-table, table-among, distinct-table, length-table}
-use Rattle.theory_format.proofs.Agreement.{agree-sym, agree-trans, well-formed-agree}
+use Rattle.theory_format.proofs.Spelling.{accepted-well-formed, spells-accepted}
+use Rattle.theory_edges.proofs.Ends.{dominance-within}
+use Rattle.theory_edges.proofs.Tables.{among-reverse, distinct-reverse, single-of-distinct, cell, row, table, among-table, table-among, distinct-table, length-table}
+use Rattle.theory_edges.proofs.Agreement.{agree-sym, agree-trans, well-formed-agree}
 
 -- the edges in tidy order
 

@@ -11,12 +11,12 @@ use lib.ListN.{length}
 use borrow.Author.Tests.{not-false}
 use Rattle.base_finite.specs.Below.{any}
 use Rattle.base_finite.proofs.Laws.{by-bool, and-both, any-none, any-false, not-holding}
-use Rattle.graph.specs.Graph.{Edge, Graph, among, entered, left, distinct, single, root, leaf, DominanceEdge, WellFormed}
-use Rattle.graph.specs.Sheet.{Outcome, refused, accepted, cyclic, bare, astray, whole}
-use Rattle.graph.specs.declared.Refusal.{Refusal}
-use Rattle.graph.specs.declared.Refusal.the-variants.{Tree, Bare, Ends}
-use Rattle.theory_format.proofs.Edges.{Within}
-use Rattle.theory_format.proofs.Cyclic.{cycle-of-cyclic, cyclic-of-cycle}
+use Rattle.graph.specs.Graph.{Edge, Graph, among, entered, left, distinct, single, root, leaf, DominanceEdge, WellFormed, cyclic}
+use Rattle.format.specs.Sheet.{Outcome, refused, accepted, bare, astray, whole}
+use Rattle.format.specs.declared.Refusal.{Refusal}
+use Rattle.format.specs.declared.Refusal.the-variants.{Tree, Bare, Ends}
+use Rattle.theory_edges.specs.Edges.{Within}
+use Rattle.theory_edges.proofs.Cyclic.{cycle-of-cyclic, cyclic-of-cycle}
 
 pub record Taken (n : ℕ) (t d : List Edge) : Type 0 where
   pub some-nodes : 2 ≤ n

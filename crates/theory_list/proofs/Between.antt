@@ -9,10 +9,12 @@ use Rattle.base_finite.specs.Below.{count}
 use Rattle.base_finite.proofs.Laws.{by-bool, not-holding}
 use Rattle.base_finite.proofs.Counting.{count-grows}
 use Rattle.graph.specs.Graph.{Graph, GraphEdge, Descent, one}
-use Rattle.theory_forest.proofs.Shape.{Shaped}
+use Rattle.theory_forest.specs.Shape.{Shaped}
 use Rattle.theory_forest.proofs.Closure.{path-trans, path-last}
-use Rattle.theory_forest.proofs.Table.{and-holds, descentTable, descends, descends-iff, descent-within}
-use Rattle.theory_list.proofs.Redundancy.{Loopless, NoneBetween, between, between-iff}
+use Rattle.theory_forest.proofs.Table.{and-holds, descends-iff, descent-within}
+use Rattle.theory_forest.specs.Table.{descentTable, descends}
+use Rattle.theory_list.specs.Redundancy.{Loopless, NoneBetween, between}
+use Rattle.theory_list.proofs.Redundancy.{between-iff}
 
 inside : Graph → ℕ → ℕ → ℕ → Bool
 inside g u v x = descends g u x && descends g x v

@@ -17,55 +17,21 @@ use Rattle.base_finite.proofs.Laws.{by-bool, and-both, and-intro, count-le, lea
 use Rattle.graph.specs.Graph.{Graph, root, leaf, own, Descent, one, more}
 use Rattle.graph.specs.Order.{Kept, Choice, adding}
 use Rattle.graph.specs.Placing.{Below, SolvedForm}
-use Rattle.theory_format.proofs.Edges.{sum, sum-grows, sum-bound}
+use Rattle.theory_edges.proofs.Edges.{sum-grows, sum-bound}
 use Rattle.base_finite.proofs.Counting.{count-mono, count-grows}
-use Rattle.theory_format.proofs.Spelling.{leaf-below, root-below}
-use Rattle.theory_forest.proofs.Shape.{Shaped, adding-shaped}
+use Rattle.theory_edges.proofs.Ends.{leaf-below, root-below}
+use Rattle.theory_forest.specs.Shape.{Shaped}
+use Rattle.theory_forest.proofs.Shape.{adding-shaped}
 use Rattle.theory_forest.proofs.Closure.{path-trans, path-map, descent-added, added-edge}
-use Rattle.theory_forest.proofs.Table.{look, descends, descends-iff}
+use Rattle.theory_forest.specs.Table.{descends}
+use Rattle.theory_forest.proofs.Table.{descends-iff}
 use Rattle.theory_forest.proofs.Fragments.{own-root, leaf-below-own}
 use Rattle.theory_forest.proofs.Forests.{chain, leaf-above-root, tree-below, solved-adding}
-use Rattle.theory_list.proofs.Redundancy.{Loopless, keptTable, kept, kept-iff, kept-holds, kept-within}
+use Rattle.theory_list.specs.Redundancy.{Loopless, keptTable, kept}
+use Rattle.theory_list.proofs.Redundancy.{kept-iff, kept-holds, kept-within}
+use Rattle.theory_list.specs.Choosing.{lowestAbove, nextAbove, forked, Triple, leavesOf, rootOf, chosenBy, chosen, Unforked, pairs}
 
 -- the search, over the table of the edges that stay
-
-unfoldable pub lowestAbove : ℕ → List (List Bool) → ℕ → ℕ
-unfolding least look
-lowestAbove n m v = least n (λ l. look m l v)
-
--- the lowest after a
-unfoldable pub nextAbove : ℕ → List (List Bool) → ℕ → ℕ → ℕ
-unfolding least look
-nextAbove n m v a = least n (λ l. ltb a l && look m l v)
-
-unfoldable pub forked : ℕ → List (List Bool) → ℕ → Bool
-unfolding lowestAbove nextAbove
-forked n m v = ltb (nextAbove n m v (lowestAbove n m v)) n
-
--- the root and the two leaves
-abbrev pub Triple : Type 0
-Triple = ℕ × ℕ × ℕ
-
-unfoldable leavesOf : ℕ → List (List Bool) → ℕ → ℕ → Triple
-unfolding nextAbove
-leavesOf n m v a = (v, a, nextAbove n m v a)
-
-unfoldable rootOf : ℕ → List (List Bool) → ℕ → Triple
-unfolding leavesOf lowestAbove
-rootOf n m v = leavesOf n m v (lowestAbove n m v)
-
-unfoldable chosenBy : ℕ → List (List Bool) → Triple
-unfolding rootOf forked least
-chosenBy n m = rootOf n m (least n (forked n m))
-
--- its root is no node where there is no choice
-unfoldable pub chosen : Graph → Triple
-unfolding chosenBy keptTable
-chosen g = chosenBy (g .nodes) (keptTable g)
-
--- no root has two edges that stay
-abbrev pub Unforked : Graph → Type 0
-Unforked g = (w l m : ℕ) → Kept g l w → Kept g m w → l ≡ m
 
 module _ (g : Graph) (s : Shaped g) (n : Loopless g) where
   -- where w is not forked, the leaf of an edge to w that stays is the lowest
@@ -271,11 +237,6 @@ passes g s n v a b k j d =
 
 pub choice-grows : (g : Graph) → Shaped g → Loopless g → {v a b : ℕ} → Choice g v a b → (Descent g a (own g b) → ⊥) × (Descent g b (own g a) → ⊥)
 choice-grows g s n {v} {a} {b} c = (passes g s n v a b (c .first) (c .second), passes g s n v b a (c .second) (c .first))
-
--- how many pairs the descent relation has
-unfoldable pub pairs : Graph → ℕ
-unfolding sum count descends
-pairs g = sum (g .nodes) (λ u. count (g .nodes) (descends g u))
 
 pub pairs-le : (g : Graph) → pairs g ≤ g .nodes * g .nodes
 unfolding pairs

@@ -11,40 +11,21 @@ use lib.Dec.{ltb}
 use lib.ListN.{length}
 use borrow.Author.Tests.{ltb-true, ltb-false}
 use Rattle.base_finite.proofs.Laws.{by-bool}
-use Rattle.graph.specs.Graph.{Graph, entered, parent, top, root, leaf, own}
+use Rattle.graph.specs.Graph.{Graph, root, leaf, own}
 use Rattle.graph.specs.Order.{Choice, adding, entry}
 use Rattle.graph.specs.Placing.{hangs, Below, Contains, SolvedForm, Reading}
-use Rattle.theory_forest.proofs.Shape.{Shaped}
-use Rattle.theory_forest.proofs.Table.{under, under-iff}
+use Rattle.theory_forest.specs.Shape.{Shaped}
+use Rattle.theory_forest.specs.Table.{under}
+use Rattle.theory_forest.proofs.Table.{under-iff}
 use Rattle.theory_forest.proofs.Forests.{solved-adding}
-use Rattle.theory_list.proofs.Redundancy.{Loopless}
-use Rattle.theory_list.proofs.Choosing.{Triple, Unforked, chosen, choice-made, choice-none, choice-splits, choice-disjoint, first-shaped, second-shaped, pairs, pairs-le, first-grows, second-grows}
-use Rattle.theory_list.proofs.Settled.{settled, settled-descent, settled-solved}
-use Rattle.theory_list.proofs.Readings.{listed, reading-least, listing-exists}
-
-unfoldable pub guide : ℕ → Graph → List ℕ → List ℕ
-unfolding chosen settled under adding own top entered parent
-guide zero g p = settled g
-guide (suc k) g p =
-    let c : Triple = chosen g in
-    elim (ltb (c .0) (g .nodes)) [
-      | false ↦ settled g
-      | true ↦
-          elim (under g p (c .1) (own g (c .2))) [
-            | false ↦ guide k (adding g (c .2) (own g (c .1))) p
-            | true ↦ guide k (adding g (c .1) (own g (c .2))) p
-          ]
-    ]
-
-unfoldable pub guided : Graph → List ℕ → List ℕ
-unfolding guide
-guided g p = guide (suc (g .nodes * g .nodes)) g p
-
--- the way from p to its end
-pub data Leads : Graph → List ℕ → List ℕ → Type 0 where
-  arrived : {g : Graph} {p : List ℕ} → Loopless g → Unforked g → Leads g p (settled g)
-  to-first : {g : Graph} {p q : List ℕ} (v a b : ℕ) → Choice g v a b → Below g p a (own g b) → Leads (adding g a (own g b)) p q → Leads g p q
-  to-second : {g : Graph} {p q : List ℕ} (v a b : ℕ) → Choice g v a b → Below g p b (own g a) → Leads (adding g b (own g a)) p q → Leads g p q
+use Rattle.theory_list.specs.Redundancy.{Loopless}
+use Rattle.theory_list.specs.Choosing.{chosen, pairs}
+use Rattle.theory_list.proofs.Choosing.{choice-made, choice-none, choice-splits, choice-disjoint, first-shaped, second-shaped, pairs-le, first-grows, second-grows}
+use Rattle.theory_list.specs.Settled.{settled}
+use Rattle.theory_list.proofs.Settled.{settled-descent, settled-solved}
+use Rattle.theory_list.specs.Readings.{listed}
+use Rattle.theory_list.proofs.Readings.{reading-least, listing-exists}
+use Rattle.theory_list.specs.Guided.{guide, guided, Leads, arrived, to-first, to-second}
 
 guide-arrived : (k : ℕ) (g : Graph) (p : List ℕ) → ltb (chosen g .0) (g .nodes) ≡ false → guide (suc k) g p ≡ settled g
 unfolding guide

@@ -6,17 +6,14 @@ use Prim.Native.Nat.{ℕ}
 use mathlib.Core.List.{List}
 use Rattle.graph.specs.Graph.{Graph, own, Descent}
 use Rattle.graph.specs.Order.{Choice, adding}
-use Rattle.graph.specs.Placing.{Solvable}
-use Rattle.theory_forest.proofs.Shape.{Shaped}
+use Rattle.theory_forest.specs.Shape.{Shaped}
 use Rattle.theory_forest.proofs.Forests.{solved-adding}
-use Rattle.theory_list.proofs.Redundancy.{Loopless}
+use Rattle.theory_list.specs.Redundancy.{Loopless}
 use Rattle.theory_list.proofs.Choosing.{first-shaped, second-shaped}
-use Rattle.theory_list.proofs.Settled.{settled, settled-solved}
+use Rattle.theory_list.specs.Settled.{settled}
+use Rattle.theory_list.proofs.Settled.{settled-solved}
 use Rattle.theory_list.proofs.Readings.{Lists, looped, alone, split, listed-lists}
-
--- no solved form exists
-abbrev pub Unsolvable : Graph → Type 0
-Unsolvable g = Solvable g → ⊥
+use Rattle.theory_list.specs.Unsolvable.{Unsolvable}
 
 -- nor does it with an edge more
 pub unsolvable-adding : (g : Graph) (a r : ℕ) → Unsolvable g → Unsolvable (adding g a r)

@@ -7,12 +7,15 @@ use mathlib.Core.Bool.{true}
 use mathlib.Core.Logic.{_⊎_, inl, inr, ⊎-elim, _↔_}
 use Rattle.graph.specs.Graph.{Graph, root, leaf, TreeEdge, DominanceEdge, GraphEdge, Descent, one, own}
 use Rattle.graph.specs.Order.{Kept, Choice, adding}
-use Rattle.theory_format.proofs.Spelling.{leaf-below}
-use Rattle.theory_forest.proofs.Shape.{Shaped, adding-shaped}
+use Rattle.theory_edges.proofs.Ends.{leaf-below}
+use Rattle.theory_forest.specs.Shape.{Shaped}
+use Rattle.theory_forest.proofs.Shape.{adding-shaped}
 use Rattle.theory_forest.proofs.Closure.{path-trans, path-first, descent-adding, descent-added, added-edge}
 use Rattle.theory_forest.proofs.Fragments.{leaf-childless, root-adding, leaf-adding, own-root}
-use Rattle.theory_list.proofs.Redundancy.{Loopless, kept-iff}
+use Rattle.theory_list.specs.Redundancy.{Loopless}
+use Rattle.theory_list.proofs.Redundancy.{kept-iff}
 use Rattle.theory_list.proofs.Choosing.{lower-leaf, upper-leaf, choice-grows}
+use Rattle.theory_list.specs.Keeping.{Fresh}
 
 pub kept-rows : (g : Graph) → Shaped g → Loopless g → (l r : ℕ)
     → Kept g l r ↔ ((leaf g l ≡ true) × (root g r ≡ true) × Descent g l r × ((x : ℕ) → Descent g l x → Descent g x r → ⊥))
@@ -50,12 +53,6 @@ closes g a r n u d =
           (p .1),
     )))
     (descent-adding g a r u u .0 d)
-
--- an edge from a leaf to a root; where it closes no cycle, it is one that the leaf did not lead to
-pub record Fresh (g : Graph) (a r : ℕ) : Type 0 where
-  pub from-leaf : leaf g a ≡ true
-  pub to-root : root g r ≡ true
-  pub apart : Loopless (adding g a r) → Descent g a r → ⊥
 
 module _ (g : Graph) (s : Shaped g) {v a b : ℕ} (c : Choice g v a b) where
   pub first-fresh : Fresh g a (own g b)

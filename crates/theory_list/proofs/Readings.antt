@@ -14,35 +14,20 @@ use lib.ListN.{length}
 use borrow.Author.Tests.{ltb-true, ltb-false}
 use Rattle.base_finite.specs.Below.{any}
 use Rattle.base_finite.proofs.Laws.{by-bool, any-at, any-found, not-holding}
-use Rattle.graph.specs.Graph.{Graph, entered, parent, top, root, leaf, own, Descent}
+use Rattle.graph.specs.Graph.{Graph, root, leaf, own, Descent}
 use Rattle.graph.specs.Order.{Choice, adding, Before, halves, within-first, within-second, entry, Listing}
 use Rattle.graph.specs.Placing.{hangs, Below, Contains, SolvedForm, Reading, Solvable}
-use Rattle.theory_forest.proofs.Shape.{Shaped}
-use Rattle.theory_forest.proofs.Table.{acyclic, acyclic-iff, descends, descends-iff, descent-within, under-iff, under}
+use Rattle.theory_forest.specs.Shape.{Shaped}
+use Rattle.theory_forest.specs.Table.{acyclic, descends, under}
+use Rattle.theory_forest.proofs.Table.{acyclic-iff, descends-iff, descent-within, under-iff}
 use Rattle.theory_forest.proofs.Forests.{determined, solved-adding}
 use Rattle.theory_list.proofs.Entries.{Every, Covered, Ordered, OnlyAt, every-joined, only-first, only-second, ordered-joined, same-lists}
-use Rattle.theory_list.proofs.Redundancy.{Loopless}
-use Rattle.theory_list.proofs.Choosing.{Triple, Unforked, chosen, choice-made, choice-none, choice-unique, choice-splits, choice-disjoint, first-shaped, second-shaped, pairs, pairs-le, first-grows, second-grows}
-use Rattle.theory_list.proofs.Settled.{settled, settled-descent, settled-solved}
-
--- the readings that fewer than k choices, one after the other, lead to
-unfoldable pub readings : ℕ → Graph → List (List ℕ)
-unfolding acyclic chosen settled adding own top entered parent
-readings zero g = []
-readings (suc k) g =
-    elim (acyclic g) [
-      | false ↦ []
-      | true ↦
-          let c : Triple = chosen g in
-          elim (ltb (c .0) (g .nodes)) [
-            | false ↦ settled g ∷ []
-            | true ↦ readings k (adding g (c .1) (own g (c .2))) ++ readings k (adding g (c .2) (own g (c .1)))
-          ]
-    ]
-
-unfoldable pub listed : Graph → List (List ℕ)
-unfolding readings
-listed g = readings (suc (g .nodes * g .nodes)) g
+use Rattle.theory_list.specs.Redundancy.{Loopless}
+use Rattle.theory_list.specs.Choosing.{Unforked, chosen, pairs}
+use Rattle.theory_list.proofs.Choosing.{choice-made, choice-none, choice-unique, choice-splits, choice-disjoint, first-shaped, second-shaped, pairs-le, first-grows, second-grows}
+use Rattle.theory_list.specs.Settled.{settled}
+use Rattle.theory_list.proofs.Settled.{settled-descent, settled-solved}
+use Rattle.theory_list.specs.Readings.{readings, listed}
 
 -- how the list comes about, without the tests and the bound
 pub data Lists : Graph → List (List ℕ) → Type 0 where

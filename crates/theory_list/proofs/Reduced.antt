@@ -11,12 +11,14 @@ use mathlib.Core.Logic.{_⊎_, inl, inr, ⊎-elim, _↔_}
 use Rattle.graph.specs.Graph.{Edge, Graph, among, root, leaf, own, TreeEdge, DominanceEdge, GraphEdge, Descent, one}
 use Rattle.graph.specs.Order.{Kept, Choice, adding, Before, halves, within-first, within-second}
 use Rattle.graph.specs.Placing.{hangs, Below, SolvedForm}
-use Rattle.theory_format.proofs.Tables.{table, among-table, table-among}
-use Rattle.theory_forest.proofs.Shape.{Shaped, same-trees}
+use Rattle.theory_edges.proofs.Tables.{table, among-table, table-among}
+use Rattle.theory_forest.specs.Shape.{Shaped}
+use Rattle.theory_forest.proofs.Shape.{same-trees}
 use Rattle.theory_forest.proofs.Closure.{path-trans, path-map, path-first, descent-adding}
 use Rattle.theory_forest.proofs.Fragments.{leaf-childless}
 use Rattle.theory_forest.proofs.Forests.{solved-adding}
-use Rattle.theory_list.proofs.Redundancy.{Loopless, NoneBetween, between, kept, kept-iff, kept-holds, kept-within}
+use Rattle.theory_list.specs.Redundancy.{Loopless, NoneBetween, kept}
+use Rattle.theory_list.proofs.Redundancy.{kept-iff, kept-holds, kept-within}
 use Rattle.theory_list.proofs.Choosing.{first-shaped, second-shaped}
 use Rattle.theory_list.proofs.Between.{descent-by-edges}
 use Rattle.theory_list.proofs.Guided.{solved-loopless}

@@ -5,24 +5,21 @@
 use Prim.Native.Nat.{ℕ, _<_}
 use mathlib.Core.Path.{_≡_, sym, subst, _∙_}
 use mathlib.Core.List.{List, [], _∷_}
-use mathlib.Core.Bool.{Bool, true, false, not, _&&_, true≢false}
+use mathlib.Core.Bool.{true, false, not, _&&_, true≢false}
 use mathlib.Core.Logic.{inl, inr, ⊎-elim, _↔_}
 use lib.Dec.{eqb}
 use borrow.Author.Tests.{eqb-true, eq-eqb, not-true}
-use Rattle.base_finite.specs.Below.{any}
 use Rattle.base_finite.proofs.Laws.{by-bool, and-both, and-intro, any-at, any-found, not-holding}
 use Rattle.graph.specs.Graph.{Edge, Graph, among, TreeEdge, DominanceEdge, GraphEdge, Descent, one, more}
 use Rattle.graph.specs.Order.{without, removed, Kept}
-use Rattle.theory_format.proofs.Edges.{among-cases, among-first, among-rest, among-none}
-use Rattle.theory_format.proofs.Spelling.{leaf-below, root-below}
-use Rattle.theory_forest.proofs.Shape.{Shaped}
+use Rattle.theory_edges.proofs.Edges.{among-cases, among-first, among-rest, among-none}
+use Rattle.theory_edges.proofs.Ends.{leaf-below, root-below}
+use Rattle.theory_forest.specs.Shape.{Shaped}
 use Rattle.theory_forest.proofs.Closure.{path-trans, path-cons, path-first, descent-removed}
-use Rattle.theory_forest.proofs.Table.{tabulate, look, descentTable, descends, look-tabulate, tabulate-within, descends-iff, descent-within}
+use Rattle.theory_forest.specs.Table.{descentTable, descends}
+use Rattle.theory_forest.proofs.Table.{look-tabulate, tabulate-within, descends-iff, descent-within}
 use Rattle.theory_forest.proofs.Fragments.{root-parentless}
-
--- no node descends to itself
-abbrev pub Loopless : Graph → Type 0
-Loopless g = (u : ℕ) → Descent g u u → ⊥
+use Rattle.theory_list.specs.Redundancy.{Loopless, NoneBetween, between, keptBy, keptTable, kept}
 
 -- a descent between two different nodes, as it has no loop
 pub descent-apart : (g : Graph) → Loopless g → {u v : ℕ} → Descent g u v → u ≡ v → ⊥
@@ -81,10 +78,6 @@ module _ (g : Graph) (n : Loopless g) (l r : ℕ) where
   avoids-start d (more {v = v} {w = w} p e) =
       more (avoids-start d p) (edge-kept g l r v w (λ q. descent-apart g n (path-trans d p) (sym (q .0))) e)
 
--- no node lies between l and r
-abbrev pub NoneBetween : Graph → ℕ → ℕ → Type 0
-NoneBetween g l r = (x : ℕ) → Descent g l x → Descent g x r → ⊥
-
 -- an edge of the smaller graph from l to r is neither a tree edge, as r is a root, nor the edge taken out
 no-other-edge : (g : Graph) → Shaped g → (l r : ℕ) → DominanceEdge g l r → GraphEdge (removed g l r) l r → ⊥
 unfolding removed
@@ -106,26 +99,6 @@ kept-iff g s n l r = (
 )
 
 -- the test, over the table of the descent relation
-
-unfoldable pub between : ℕ → List (List Bool) → ℕ → ℕ → Bool
-unfolding any look
-between n m u v = any n (λ x. look m u x && look m x v)
-
-unfoldable pub keptBy : Graph → List (List Bool) → ℕ → ℕ → Bool
-unfolding between among
-keptBy g m l r = among (g .dominance) l r && not (between (g .nodes) m l r)
-
--- the table of the edges that stay
-unfoldable pub keptTable : Graph → List (List Bool)
-unfolding tabulate keptBy descentTable
-keptTable g = keptRows g (descentTable g)
-  where
-    keptRows : Graph → List (List Bool) → List (List Bool)
-    keptRows g m = tabulate (g .nodes) (keptBy g m)
-
-unfoldable pub kept : Graph → ℕ → ℕ → Bool
-unfolding keptTable look
-kept g l r = look (keptTable g) l r
 
 pub between-iff : (g : Graph) → Shaped g → (u v : ℕ) → (between (g .nodes) (descentTable g) u v ≡ true) ↔ ((x : ℕ) × Descent g u x × Descent g x v)
 unfolding between descends

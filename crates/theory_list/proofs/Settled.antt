@@ -5,7 +5,7 @@
 use Prim.Native.Nat.{ℕ, zero, suc, _≤_, _<_}
 use mathlib.Core.Path.{_≡_, refl, sym, ap, subst, _∙_}
 use mathlib.Core.List.{List}
-use mathlib.Core.Bool.{Bool, true, false, cond, _&&_, _||_}
+use mathlib.Core.Bool.{true, false, _&&_, _||_}
 use mathlib.Core.Logic.{_⊎_, inl, inr, ⊎-elim}
 use native.Mathlib.Nat.{le-of-suc-le-suc}
 use native.Mathlib.Omega.{arith}
@@ -17,26 +17,17 @@ use Rattle.base_finite.proofs.Laws.{by-bool, or-left, or-right, and-intro, all-
 use Rattle.graph.specs.Graph.{Graph, root, leaf, none, TreeEdge, DominanceEdge, GraphEdge, Descent, one}
 use Rattle.graph.specs.Order.{Kept}
 use Rattle.graph.specs.Placing.{at, placing, hangs, Below, Contains, SolvedForm}
-use Rattle.theory_format.proofs.Spelling.{leaf-below, root-below}
-use Rattle.theory_forest.proofs.Shape.{Shaped}
+use Rattle.theory_edges.proofs.Ends.{leaf-below, root-below}
+use Rattle.theory_forest.specs.Shape.{Shaped}
 use Rattle.theory_forest.proofs.Closure.{path-trans, path-map}
-use Rattle.theory_forest.proofs.Table.{listed as row, hangs-parts, hangs-intro}
+use Rattle.theory_forest.specs.Table.{listed as row}
+use Rattle.theory_forest.proofs.Table.{hangs-parts, hangs-intro}
 use Rattle.theory_forest.proofs.Forests.{acyclic-forest}
-use Rattle.theory_list.proofs.Redundancy.{Loopless, NoneBetween, keptTable, kept, kept-iff, kept-holds, kept-within}
-use Rattle.theory_list.proofs.Choosing.{lowestAbove, Unforked}
+use Rattle.theory_list.specs.Redundancy.{Loopless, NoneBetween, keptTable, kept}
+use Rattle.theory_list.proofs.Redundancy.{kept-iff, kept-holds, kept-within}
+use Rattle.theory_list.specs.Choosing.{lowestAbove, Unforked}
 use Rattle.theory_list.proofs.Between.{descent-by-edges}
-
--- a number below n, and `none` for what is not
-unfoldable pub within : ℕ → ℕ → ℕ
-within n l = cond (ltb l n) l none
-
-unfoldable settledBy : ℕ → List (List Bool) → List ℕ
-unfolding row within lowestAbove
-settledBy n m = row n (λ r. within n (lowestAbove n m r))
-
-unfoldable pub settled : Graph → List ℕ
-unfolding settledBy keptTable
-settled g = settledBy (g .nodes) (keptTable g)
+use Rattle.theory_list.specs.Settled.{within, settledBy, settled}
 
 -- what stands in it
 

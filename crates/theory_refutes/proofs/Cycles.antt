@@ -15,7 +15,7 @@ use Rattle.base_finite.proofs.Bounds.{count-single}
 use Rattle.base_finite.proofs.Laws.{by-bool, or-cases, and-both, all-at}
 use Rattle.graph.specs.Graph.{Graph, among, leaf, TreeEdge, DominanceEdge}
 use Rattle.graph.specs.Cycle.{pairs, node, kind, next, joined, sameEdge, cycle, dominanceAt, hypernormal, hypernormalCycle}
-use Rattle.theory_format.proofs.Spelling.{leaf-below}
+use Rattle.theory_edges.proofs.Ends.{leaf-below}
 use Rattle.theory_forest.proofs.Table.{or-holds, and-holds, eqb-holds}
 
 -- edges

@@ -17,7 +17,8 @@ use Rattle.base_finite.proofs.Laws.{by-bool}
 use Rattle.graph.specs.Graph.{Graph, TreeEdge, DominanceEdge, Path, one, WellFormed}
 use Rattle.graph.specs.Placing.{PlacingEdge, Below, Forest, SolvedForm, Solvable}
 use Rattle.graph.specs.Cycle.{pairs, node, kind, next, hypernormal, hypernormalCycle}
-use Rattle.theory_forest.proofs.Shape.{Shaped, well-formed-shaped}
+use Rattle.theory_forest.specs.Shape.{Shaped}
+use Rattle.theory_forest.proofs.Shape.{well-formed-shaped}
 use Rattle.theory_forest.proofs.Closure.{path-trans}
 use Rattle.theory_forest.proofs.Fragments.{leaf-childless}
 use Rattle.theory_forest.proofs.Forests.{Comparable, AtOrAbove, above-parent, chain, asymmetric, irreflexive-path}

@@ -13,10 +13,12 @@ use Rattle.base_finite.proofs.Laws.{by-bool, any-false, count-le, not-holding}
 use Rattle.graph.specs.Graph.{Graph, entered, left, root, leaf, parent, top, own, leafOf}
 use Rattle.graph.specs.Placing.{hangs, Below, Contains, SolvedForm, Configuration}
 use Rattle.graph.specs.Rule1.{problem, up, rise, depth, shallowest, problemLeaf, staying, lowestLeaf, shifted, Rule1, done, again}
-use Rattle.theory_format.proofs.Edges.{sum-grows, sum-bound, sum}
-use Rattle.theory_format.proofs.Spelling.{leaf-below, root-below}
-use Rattle.theory_forest.proofs.Shape.{Shaped}
-use Rattle.theory_forest.proofs.Table.{under, under-iff, hangs-parts, below-within}
+use Rattle.theory_edges.proofs.Edges.{sum-grows, sum-bound}
+use Rattle.theory_edges.specs.Edges.{sum}
+use Rattle.theory_edges.proofs.Ends.{leaf-below, root-below}
+use Rattle.theory_forest.specs.Shape.{Shaped}
+use Rattle.theory_forest.specs.Table.{under}
+use Rattle.theory_forest.proofs.Table.{under-iff, hangs-parts, below-within}
 use Rattle.base_finite.proofs.Bounds.{count-single}
 use Rattle.base_finite.proofs.Counting.{count-mono, count-grows}
 use Rattle.theory_rule1.proofs.Shifting.{Problem, target, shifted-solved, shifted-contains, shifted-grows}

@@ -17,8 +17,8 @@ use Rattle.base_finite.proofs.Laws.{by-bool, or-left, or-right, and-both, and-i
 use Rattle.graph.specs.Graph.{Graph, root, leaf, leafOf, none, TreeEdge, Path, one, more}
 use Rattle.graph.specs.Placing.{at, placing, hangs, PlacingEdge, Below, Forest, Contains, SolvedForm}
 use Rattle.graph.specs.Rule1.{problem, depth, shallowest, problemLeaf, staying, lowestLeaf, shifted}
-use Rattle.theory_format.proofs.Spelling.{leaf-below, root-below}
-use Rattle.theory_forest.proofs.Shape.{Shaped}
+use Rattle.theory_edges.proofs.Ends.{leaf-below, root-below}
+use Rattle.theory_forest.specs.Shape.{Shaped}
 use Rattle.theory_forest.proofs.Closure.{path-trans, path-lift}
 use Rattle.theory_forest.proofs.Table.{hangs-parts, hangs-intro}
 use Rattle.theory_forest.proofs.Fragments.{leafOf-parts, root-leaf, leaf-below-own}

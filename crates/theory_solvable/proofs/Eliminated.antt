@@ -15,8 +15,8 @@ use Rattle.base_finite.specs.Below.{all}
 use Rattle.base_finite.proofs.Laws.{or-left, or-right, and-intro, all-every}
 use Rattle.graph.specs.Graph.{Graph, TreeEdge, Path, one, more, root, leaf, own, none}
 use Rattle.graph.specs.Placing.{at, placing, hangs, PlacingEdge, Below, Forest, Solvable, Hanging}
-use Rattle.theory_format.proofs.Spelling.{leaf-below, root-below}
-use Rattle.theory_forest.proofs.Shape.{Shaped}
+use Rattle.theory_edges.proofs.Ends.{leaf-below, root-below}
+use Rattle.theory_forest.specs.Shape.{Shaped}
 use Rattle.theory_forest.proofs.Closure.{path-map}
 use Rattle.theory_forest.proofs.Table.{hangs-parts, hangs-intro}
 use Rattle.theory_forest.proofs.Fragments.{own-edge, own-path, own-root, own-of-root}

@@ -10,11 +10,12 @@ use mathlib.Core.Logic.{_⊎_, inl, inr, ⊎-elim, _↔_}
 use Rattle.base_finite.specs.Below.{any}
 use Rattle.base_finite.proofs.Laws.{by-bool, and-both, and-intro, any-at, any-found, not-holding}
 use Rattle.graph.specs.Graph.{Edge, Graph, Descent, among, Path, one, more, leaf, leafOf}
-use Rattle.theory_format.proofs.Spelling.{leaf-below}
-use Rattle.theory_format.proofs.Tables.{table, among-table, table-among}
-use Rattle.theory_forest.proofs.Shape.{Shaped}
+use Rattle.theory_edges.proofs.Ends.{leaf-below}
+use Rattle.theory_edges.proofs.Tables.{table, among-table, table-among}
+use Rattle.theory_forest.specs.Shape.{Shaped}
 use Rattle.theory_forest.proofs.Closure.{path-map}
-use Rattle.theory_forest.proofs.Table.{look, closure, closure-iff, descends, descends-iff, descent-within, and-holds, or-holds}
+use Rattle.theory_forest.specs.Table.{look, closure, descends}
+use Rattle.theory_forest.proofs.Table.{closure-iff, descends-iff, descent-within, and-holds, or-holds}
 use Rattle.theory_forest.proofs.Fragments.{leaf-not-root, leafOf-parts}
 use Rattle.theory_solvable.proofs.Free.{OfRoots, Joined, start, step, less, less-intro, less-member, less-other, joined-member}
 

@@ -11,8 +11,8 @@ use lib.Dec.{eqb}
 use borrow.Author.Tests.{eqb-true, eqb-false, eq-eqb, ne-eqb}
 use Rattle.base_finite.proofs.Laws.{by-bool}
 use Rattle.graph.specs.Graph.{Graph, Descent, TreeEdge, Path, one, leaf, own, leafOf, none}
-use Rattle.theory_format.proofs.Spelling.{leaf-below, root-below}
-use Rattle.theory_forest.proofs.Shape.{Shaped}
+use Rattle.theory_edges.proofs.Ends.{leaf-below, root-below}
+use Rattle.theory_forest.specs.Shape.{Shaped}
 use Rattle.theory_forest.proofs.Closure.{path-trans, path-map}
 use Rattle.theory_forest.proofs.Fragments.{leafOf-parts, leafOf-intro, leaf-below-own}
 use Rattle.theory_forest.proofs.Forests.{AtOrAbove}

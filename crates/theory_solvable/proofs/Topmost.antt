@@ -11,10 +11,11 @@ use Rattle.base_finite.specs.Below.{any, count}
 use Rattle.base_finite.proofs.Laws.{by-bool, and-both, and-intro, last-or-below, any-found, any-false, count-one-more, not-holding, test-ext}
 use Rattle.graph.specs.Graph.{Graph, Descent, one, more, root, own, leafOf}
 use Rattle.graph.specs.Placing.{PlacingEdge, Below, Forest, SolvedForm, Solvable}
-use Rattle.theory_format.proofs.Spelling.{root-below}
-use Rattle.theory_forest.proofs.Shape.{Shaped}
+use Rattle.theory_edges.proofs.Ends.{root-below}
+use Rattle.theory_forest.specs.Shape.{Shaped}
 use Rattle.theory_forest.proofs.Closure.{path-trans}
-use Rattle.theory_forest.proofs.Table.{under, under-iff, hangs-parts}
+use Rattle.theory_forest.specs.Table.{under}
+use Rattle.theory_forest.proofs.Table.{under-iff, hangs-parts}
 use Rattle.theory_forest.proofs.Fragments.{leaf-not-root, own-edge, own-of-root, leafOf-parts}
 use Rattle.theory_forest.proofs.Forests.{Comparable, AtOrAbove, irreflexive-path, stay, one-leaf-above}
 use Rattle.theory_solvable.proofs.Free.{OfRoots, Joined, start, step, Free, less, less-intro, less-member, less-other, less-of-roots, Eliminates, done, take}

@@ -12,9 +12,10 @@ use lib.Seq.{take-suc}
 use Rattle.graph.specs.Graph.{Graph, own, root, leaf}
 use Rattle.graph.specs.Order.{Choice}
 use Rattle.graph.specs.Placing.{Solvable}
-use Rattle.theory_forest.proofs.Shape.{Shaped}
-use Rattle.theory_list.proofs.Redundancy.{Loopless}
-use Rattle.theory_list.proofs.Choosing.{lower-leaf, upper-leaf, pairs, pairs-le}
+use Rattle.theory_forest.specs.Shape.{Shaped}
+use Rattle.theory_list.specs.Redundancy.{Loopless}
+use Rattle.theory_list.proofs.Choosing.{lower-leaf, upper-leaf, pairs-le}
+use Rattle.theory_list.specs.Choosing.{pairs}
 use Rattle.theory_walk.specs.Walk.{Decision, half, graphAt, Valid, outset, taken, first, second}
 use Rattle.theory_walk.proofs.Halves.{solvable-loopless, half-nodes, half-tree, half-solvable, half-shaped, half-grows}
 

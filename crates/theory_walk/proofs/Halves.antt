@@ -9,14 +9,16 @@ use mathlib.Core.Logic.{⊎-elim}
 use Rattle.graph.specs.Graph.{Graph, own}
 use Rattle.graph.specs.Order.{Choice, adding}
 use Rattle.graph.specs.Placing.{SolvedForm, Solvable}
-use Rattle.theory_forest.proofs.Shape.{Shaped}
+use Rattle.theory_forest.specs.Shape.{Shaped}
 use Rattle.theory_forest.proofs.Forests.{solved-adding}
-use Rattle.theory_list.proofs.Redundancy.{Loopless}
-use Rattle.theory_list.proofs.Choosing.{Unforked, first-shaped, second-shaped, choice-halves, pairs, first-grows, second-grows}
-use Rattle.theory_list.proofs.Settled.{settled}
-use Rattle.theory_list.proofs.Readings.{listed, alone, split, listed-lists, lists-listing, listing-exists, listing-unique, unsolvable-empty}
+use Rattle.theory_list.specs.Redundancy.{Loopless}
+use Rattle.theory_list.specs.Choosing.{Unforked, pairs}
+use Rattle.theory_list.proofs.Choosing.{first-shaped, second-shaped, choice-halves, first-grows, second-grows}
+use Rattle.theory_list.specs.Settled.{settled}
+use Rattle.theory_list.specs.Readings.{listed}
+use Rattle.theory_list.proofs.Readings.{alone, split, listed-lists, lists-listing, listing-exists, listing-unique, unsolvable-empty}
 use Rattle.theory_list.proofs.Guided.{solved-loopless}
-use Rattle.theory_list.proofs.Induction.{Unsolvable}
+use Rattle.theory_list.specs.Unsolvable.{Unsolvable}
 use Rattle.theory_walk.specs.Walk.{Decision, half, first, second}
 
 pub solvable-loopless : {g : Graph} → Solvable g → Loopless g

@@ -7,10 +7,10 @@ use mathlib.Core.List.{List, [], _∷_, _++_, append-nil, append-assoc}
 use mathlib.Core.Bool.{Bool, true, false}
 use Rattle.graph.specs.Graph.{Graph}
 use Rattle.graph.specs.Order.{Choice}
-use Rattle.theory_forest.proofs.Shape.{Shaped}
-use Rattle.theory_list.proofs.Redundancy.{Loopless}
-use Rattle.theory_list.proofs.Readings.{listed}
-use Rattle.theory_list.proofs.Induction.{Unsolvable}
+use Rattle.theory_forest.specs.Shape.{Shaped}
+use Rattle.theory_list.specs.Redundancy.{Loopless}
+use Rattle.theory_list.specs.Readings.{listed}
+use Rattle.theory_list.specs.Unsolvable.{Unsolvable}
 use Rattle.theory_walk.specs.Walk.{Decision, first, second, half, graphAt, Valid, outset, taken, otherAfter, after}
 use Rattle.theory_walk.proofs.Halves.{solvable-loopless, listed-empty, listed-split, half-solvable, half-shaped}
 use Rattle.theory_walk.proofs.Decisions.{graph-pushed, Last, valid-popped, graph-shaped}

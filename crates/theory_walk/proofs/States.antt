@@ -13,11 +13,12 @@ use lib.Seq.{drop-append-seam, drop-drop, getD-drop, length-take-le}
 use Rattle.graph.specs.Graph.{Graph}
 use Rattle.graph.specs.Order.{Choice, entry}
 use Rattle.graph.specs.Placing.{Solvable, Reading}
-use Rattle.theory_forest.proofs.Shape.{Shaped}
-use Rattle.theory_list.proofs.Choosing.{Unforked}
-use Rattle.theory_list.proofs.Settled.{settled}
-use Rattle.theory_list.proofs.Readings.{listed, listing-exists, solvable-decided}
-use Rattle.theory_list.proofs.Induction.{Unsolvable}
+use Rattle.theory_forest.specs.Shape.{Shaped}
+use Rattle.theory_list.specs.Choosing.{Unforked}
+use Rattle.theory_list.specs.Settled.{settled}
+use Rattle.theory_list.specs.Readings.{listed}
+use Rattle.theory_list.proofs.Readings.{listing-exists, solvable-decided}
+use Rattle.theory_list.specs.Unsolvable.{Unsolvable}
 use Rattle.theory_walk.specs.Walk.{Decision, first, second, half, graphAt, Valid, outset, after, Remaining, Entering, At, Leaving}
 use Rattle.theory_walk.proofs.Halves.{solvable-loopless, listed-settled, half-shaped, second-solvable}
 use Rattle.theory_walk.proofs.Decisions.{graph-pushed, valid-pushed, valid-popped, valid-turned, graph-shaped, graph-solvable, room-left}

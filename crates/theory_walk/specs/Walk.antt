@@ -11,10 +11,10 @@ use lib.ListN.{length, drop}
 use Rattle.graph.specs.Graph.{Graph, own}
 use Rattle.graph.specs.Order.{Choice, adding}
 use Rattle.graph.specs.Placing.{Solvable}
-use Rattle.theory_list.proofs.Redundancy.{Loopless}
-use Rattle.theory_list.proofs.Choosing.{Unforked}
-use Rattle.theory_list.proofs.Settled.{settled}
-use Rattle.theory_list.proofs.Readings.{listed}
+use Rattle.theory_list.specs.Redundancy.{Loopless}
+use Rattle.theory_list.specs.Choosing.{Unforked}
+use Rattle.theory_list.specs.Settled.{settled}
+use Rattle.theory_list.specs.Readings.{listed}
 
 -- the leaves a and b of a choice, and `true` for the half with a above b's root, `false` for that with b above a's root
 abbrev pub Decision : Type 0

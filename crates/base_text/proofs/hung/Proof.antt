@@ -9,7 +9,7 @@ use borrow.Author.Tests.{not-true, not-false}
 use borrow.Author.Needs.{needs}
 use Rattle.base_nodeset.specs.Set.{mem}
 use Rattle.base_nodeset.proofs.NodeSet.has.Reads as has-reads
-use Rattle.graph.specs.Text.{decimal}
+use Rattle.format.specs.Text.{decimal}
 use Rattle.base_text.specs.Lines.{hungAt}
 use Rattle.base_finite.proofs.Stores.{written-none, written-one, written-more, written-length}
 use Rattle.base_text.proofs.Lines.{hung-top, hung-no-root, hung-is, hung-length}

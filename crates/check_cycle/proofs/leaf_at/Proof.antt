@@ -2,7 +2,7 @@
 use mathlib.Core.Path.{_≡_, sym, _∙_}
 use native.Mathlib.Omega.{arith}
 use Rattle.graph.specs.Cycle.{node, kind, next}
-use Rattle.rows.specs.Rows.{inRow}
+use Rattle.base_tables.specs.Rows.{inRow}
 use Rattle.check_cycle.proofs.Scans.{no-leaf, leaf-first, leaf-second}
 use Rattle.theory_refutes.proofs.Places.{next-below}
 use borrow.Author.Needs.{needs}

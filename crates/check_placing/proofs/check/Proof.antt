@@ -3,7 +3,7 @@ use mathlib.Core.Path.{sym, _∙_}
 use denote.Ref.{now}
 use Rattle.graph.specs.Placing.{placing}
 use Rattle.theory_forest.proofs.Shape.{well-formed-shaped}
-use Rattle.trees.proofs.Held.{roots-within}
+use Rattle.base_tables.proofs.TreeLaws.{roots-within}
 use Rattle.check_placing.proofs.Shapes.{not-true, not-false, placing-links}
 use Rattle.check_placing.proofs.Verdicts.{ends-here, placed-here, not-placing, is-solved, not-solved, noes-answered, yes-answered}
 use borrow.Author.Needs.{needs}

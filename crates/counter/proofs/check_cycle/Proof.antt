@@ -1,10 +1,10 @@
 -- The sheet's refusal, or the check on its tables.
 use mathlib.Core.Path.{refl, ap}
 use denote.Ref.{now}
-use Rattle.rows.proofs.Answers.{answered-refused}
-use Rattle.start.proofs.Sheets.{sheet-of}
+use Rattle.sheet_decode.proofs.Answers.{answered-refused}
+use Rattle.solve_start.proofs.Accepted.{sheet-of}
 use Rattle.counter.specs.declared.CycleChecked.the-variants.{Answer}
-use Rattle.start.proofs.Starts.{parents-table, heads-long}
+use Rattle.solve_start.proofs.Starts.{parents-table, heads-long}
 use borrow.Author.Needs.{needs}
 use Rattle.counter.proofs.check_cycle.Statement.{statement}
 use Rattle.counter.proofs.check_cycle.Tie as tie

@@ -56,7 +56,7 @@ use denote.Triple.Table.{entered, cited}
 use denote.Triple.Walked.{says, Stays, stay-none-slice, stay-slice, walkOf, goes-none-slice, goes-slice, Walks, ends-at, walked, walk-meets}
 use denote.Exit.{yes}
 use denote.Triple.Clauses.{ensured, lasts}
-use Rattle.graph.specs.Sheet.{outcome}
+use Rattle.format.specs.Sheet.{outcome}
 use Rattle.graph.specs.declared.Fragment.{Fragment}
 use Rattle.graph.proofs.Fragment as F
 use Rattle.graph.proofs.Fragment.Laws as F′
@@ -333,5 +333,5 @@ fragments-spec 𝓤 H 𝓜 𝓖 𝓡 =
     entered 𝓤 H (tripleOf 𝓤 H (𝓖 .A) fragments.signature (fragments.spec 𝓤 H (𝓖 .A) (𝓜 .mem) (𝓡 .run)))
     (tables 𝓤 H 𝓜 𝓡 code.env .C) (tables 𝓤 H 𝓜 𝓡 code.env .Λ) #fragments code.function (code.unfolded 𝓤 H 𝓜 𝓡)
     (fragments-meets 𝓤 H (𝓖 .A) (givenOf 𝓤 H 𝓜 𝓖) (𝓜 .mem) (𝓡 .run) (tablesOf 𝓤 H 𝓜 (tables 𝓤 H 𝓜 𝓡 code.env))
-    (cited 𝓤 H (Preparing 𝓤 H (𝓖 .A) (𝓜 .mem) (𝓡 .run)) 𝓜 𝓡 code.env #prepare prepare-def.routine code.calls-fragments·records·prepare (prepare-thm.met 𝓤 H 𝓜 𝓖 𝓡))
-    (cited 𝓤 H (Recording 𝓤 H (𝓖 .A) (𝓜 .mem) (𝓡 .run)) 𝓜 𝓡 code.env #record record-def.routine code.calls-fragments·records·record (record-thm.met 𝓤 H 𝓜 𝓖 𝓡)))
+    (cited 𝓤 H (Preparing 𝓤 H (𝓖 .A) (𝓜 .mem) (𝓡 .run)) 𝓜 𝓡 code.env #prepare prepare-def.routine code.calls-sheet-fragments·records·prepare (prepare-thm.met 𝓤 H 𝓜 𝓖 𝓡))
+    (cited 𝓤 H (Recording 𝓤 H (𝓖 .A) (𝓜 .mem) (𝓡 .run)) 𝓜 𝓡 code.env #record record-def.routine code.calls-sheet-fragments·records·record (record-thm.met 𝓤 H 𝓜 𝓖 𝓡)))

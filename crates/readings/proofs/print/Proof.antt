@@ -1,6 +1,6 @@
 -- An accepted sheet's tables.
 use denote.Ref.{now}
-use Rattle.start.proofs.Sheets.{sheet-of}
+use Rattle.solve_start.proofs.Accepted.{sheet-of}
 use borrow.Author.Needs.{needs}
 use Rattle.readings.proofs.print.Statement.{statement}
 use Rattle.readings.proofs.print.Tie as tie

@@ -1,6 +1,6 @@
 -- What a walk starts from, where there is anything to walk through.
 use mathlib.Core.Path.{refl}
-use Rattle.start.proofs.Starts.{parents-table}
+use Rattle.solve_start.proofs.Starts.{parents-table}
 use borrow.Author.Needs.{needs}
 use Rattle.readings.proofs.print_list.Statement.{statement}
 use Rattle.readings.proofs.print_list.Tie as tie

@@ -6,11 +6,11 @@ use native.Mathlib.Omega.{arith}
 use lib.ListN.{length, length-replicate}
 use lib.Seq.{length-take-le}
 use Rattle.graph.specs.Order.{limit}
-use Rattle.solve_branch.specs.Given.{Sheet}
+use Rattle.solve_branch.specs.Fits.{Walkable}
 use Rattle.solve_branch.specs.Levels.{Saved}
 use Rattle.solve_branch.specs.States.{Stands}
 use Rattle.solve_walk.proofs.Walked.{walked-of}
-use Rattle.numbered.proofs.Numbers.{room}
+use Rattle.solve_numbered.proofs.Numbers.{room}
 use borrow.Author.Needs.{needs}
 use Rattle.readings.proofs.print_readings.Statement.{statement}
 use Rattle.readings.proofs.print_readings.Tie as tie
@@ -25,7 +25,7 @@ Inv-loop parent owner n leaves roots base-low base-high low₀ high₀ saved-low
     ((length low ≡ 257) × (length high ≡ 257))
     × ((length uppers ≡ 16384) × (length lowers ≡ 16384))
     × (length out ≡ 262144)
-    × (more ≡ true → (passed < limit) × ((s : Sheet n parent owner leaves roots base-low base-high) → Stands (s .graph) uppers lowers low high depth passed × Saved (s .graph) uppers lowers saved-low saved-high depth))
+    × (more ≡ true → (passed < limit) × ((s : Walkable n parent owner leaves roots base-low base-high) → Stands (s .graph) uppers lowers low high depth passed × Saved (s .graph) uppers lowers saved-low saved-high depth))
     × ((length saved-low ≡ 6168) × (length saved-high ≡ 6168))
 
 abbrev μ-loop : tie.MeasureT-loop

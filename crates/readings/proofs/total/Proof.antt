@@ -7,7 +7,7 @@ use borrow.Author.Tests.{le-leb, not-true}
 use borrow.Author.Needs.{needs}
 use Rattle.graph.specs.Order.{limit, countAnswer}
 use Rattle.graph.specs.declared.Count.the-variants.{Exactly}
-use Rattle.theory_list.proofs.Readings.{listed}
+use Rattle.theory_list.specs.Readings.{listed}
 use Rattle.readings.proofs.total.Statement.{statement}
 use Rattle.readings.proofs.total.Tie as tie
 

@@ -1,6 +1,6 @@
 use mathlib.Core.Path.{refl}
 use denote.Ref.{now}
-use Rattle.rows.proofs.Answers.{answered-refused, answered-accepted}
+use Rattle.sheet_decode.proofs.Answers.{answered-refused, answered-accepted}
 use borrow.Author.Needs.{needs}
 use Rattle.sheet_encode.proofs.tidy.Statement.{statement}
 use Rattle.sheet_encode.proofs.tidy.Tie as tie

@@ -4,9 +4,9 @@ use native.Mathlib.Omega.{arith}
 use lib.ListN.{length, length-set}
 use denote.Ref.{now}
 use borrow.Author.Tests.{lt-ltb, le-ltb}
-use Rattle.graph.specs.Sheet.{tidy}
+use Rattle.format.specs.Sheet.{tidy}
 use Rattle.sheet_encode.specs.declared.Tidied.the-variants.{Length}
-use Rattle.sheet_encode.proofs.Held.{held-parents, held-few, held-low, held-high, held-edges, held-trees, held-length, held-parts, all-written}
+use Rattle.sheet_encode.proofs.GraphBytes.{held-parents, held-few, held-low, held-high, held-edges, held-trees, held-length, held-parts, all-written}
 use borrow.Author.Needs.{needs}
 use Rattle.sheet_encode.proofs.write.Statement.{statement}
 use Rattle.sheet_encode.proofs.write.Tie as tie

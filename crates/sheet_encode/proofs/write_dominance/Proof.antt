@@ -1,11 +1,10 @@
 use denote.Ref.{now}
-use lib.ListN.{getD}
+use lib.ListN.{getD, length}
 use Rattle.sheet_encode.specs.Tidy.{rowBytes, dominancePart}
 use Rattle.sheet_encode.proofs.Runs.{dominance-part-none, dominance-part-more, dominance-part-longer}
 use Prim.Native.Nat.{_+_, _-_, _≤_}
 use mathlib.Core.Path.{_≡_, refl, _∙_}
 use native.Mathlib.Omega.{arith}
-use lib.ListN.{length}
 use Rattle.base_finite.specs.Stores.{Written}
 use Rattle.base_finite.proofs.Stores.{room, written-none, written-more}
 use borrow.Author.Needs.{needs}

@@ -4,7 +4,7 @@ use denote.Ref.{now}
 use Rattle.base_finite.proofs.Laws.{count-le}
 use Rattle.base_nodeset.specs.Set.{mem}
 use Rattle.base_finite.proofs.Bounds.{count-longer}
-use Rattle.sheet_fragments.proofs.Held.{small-table, full-table}
+use Rattle.sheet_fragments.proofs.GraphRecords.{small-table, full-table}
 use borrow.Author.Needs.{needs}
 use Rattle.sheet_fragments.proofs.tabulate.Statement.{statement}
 use Rattle.sheet_fragments.proofs.tabulate.Tie as tie

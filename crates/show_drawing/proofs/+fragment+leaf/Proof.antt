@@ -10,7 +10,7 @@ use lib.ListN.{length, length-append, length-set}
 use borrow.Author.Needs.{needs}
 use borrow.Author.Tests.{eq-eqb, ne-eqb, eqb-false}
 use Rattle.base_finite.specs.Below.{any}
-use Rattle.graph.specs.Text.{decimal}
+use Rattle.format.specs.Text.{decimal}
 use Rattle.base_finite.specs.Stores.{Written}
 use Rattle.show_drawing.specs.Drawn.{leafIn, fragmentIn, leafAt, hungAt, leavesIn, hungIn}
 use Rattle.base_finite.proofs.Stores.{written-none, written-one, written-more}

@@ -2,7 +2,7 @@
 use mathlib.Core.Path.{refl}
 use native.Mathlib.Omega.{arith}
 use denote.Ref.{now}
-use Rattle.show_drawing.proofs.Held.{given-parents, placing-long, some-nodes, text-fits, drawn}
+use Rattle.show_drawing.proofs.GraphDrawn.{given-parents, placing-long, some-nodes, text-fits, drawn}
 use borrow.Author.Needs.{needs}
 use Rattle.show_drawing.proofs.draw.Statement.{statement}
 use Rattle.show_drawing.proofs.draw.Tie as tie

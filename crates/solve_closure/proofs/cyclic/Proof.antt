@@ -7,7 +7,7 @@ use denote.Ref.{now}
 use borrow.Author.Count.{below-none, below-more}
 use borrow.Author.Needs.{needs}
 use Rattle.base_finite.proofs.Laws.{any-at, any-none}
-use Rattle.rows.specs.Rows.{inRow}
+use Rattle.base_tables.specs.Rows.{inRow}
 use Rattle.solve_closure.proofs.cyclic.Statement.{statement}
 use Rattle.solve_closure.proofs.cyclic.Tie as tie
 

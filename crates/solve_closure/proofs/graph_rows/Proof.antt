@@ -1,6 +1,6 @@
 -- Cleared rows hold the closure of no edge; the tables' edges, added to it, are the graph's.
 use mathlib.Core.Path.{_∙_}
-use Rattle.solve_closure.proofs.Held.{cleared-closed, graph-built}
+use Rattle.solve_closure.proofs.GraphRows.{cleared-closed, graph-built}
 use borrow.Author.Needs.{needs}
 use Rattle.solve_closure.proofs.graph_rows.Statement.{statement}
 use Rattle.solve_closure.proofs.graph_rows.Tie as tie

@@ -1,7 +1,7 @@
 -- As for a graph, with the placing's bytes as the second table.
 use mathlib.Core.Path.{_∙_}
 use denote.Ref.{now}
-use Rattle.solve_closure.proofs.Held.{parents-links, cleared-closed, placing-built}
+use Rattle.solve_closure.proofs.GraphRows.{parents-links, cleared-closed, placing-built}
 use borrow.Author.Needs.{needs}
 use Rattle.solve_closure.proofs.placing_rows.Statement.{statement}
 use Rattle.solve_closure.proofs.placing_rows.Tie as tie

@@ -10,8 +10,8 @@ use Rattle.base_finite.specs.Below.{any}
 use Rattle.base_finite.proofs.Laws.{any-ext}
 use Rattle.base_nodeset.specs.Set.{mem}
 use Rattle.theory_forest.proofs.Shape.{well-formed-shaped}
-use Rattle.rows.specs.Rows.{Long, inRow}
-use Rattle.trees.proofs.Held.{tables-parents}
+use Rattle.base_tables.specs.Rows.{Long, inRow}
+use Rattle.base_tables.proofs.TreeLaws.{tables-parents}
 use Rattle.solve_cycle.specs.Thinning.{Unsolved, Thinned, before}
 use Rattle.solve_cycle.proofs.Cycles.{few-nodes, copied, lowest-of, first-leaf-is, linked, ring-cycle}
 use borrow.Author.Needs.{needs}

@@ -2,7 +2,7 @@
 use borrow.Author.Needs.{needs}
 use native.Mathlib.Omega.{arith}
 use denote.Ref.{now}
-use Rattle.solve_rule1.proofs.Held.{solved-length, up-parent, up-hung}
+use Rattle.solve_rule1.proofs.SolvedTables.{solved-length, up-parent, up-hung}
 use Rattle.solve_rule1.proofs.above.Statement.{statement}
 use Rattle.solve_rule1.proofs.above.Tie as tie
 

@@ -5,9 +5,9 @@ use Prim.Native.Nat.{_-_, _≤_, _<_}
 use mathlib.Core.Path.{_≡_}
 use denote.Ref.{now}
 use Rattle.graph.specs.Rule1.{depth}
-use Rattle.solve_rule1.specs.Given.{Solved}
+use Rattle.solve_rule1.specs.Solved.{Solved}
 use Rattle.solve_rule1.specs.Carried.{Best}
-use Rattle.solve_rule1.proofs.Held.{few}
+use Rattle.solve_rule1.proofs.SolvedTables.{few}
 use Rattle.solve_rule1.proofs.Choosing.{better-below, lowest-within, best-start, best-more}
 use Rattle.solve_rule1.proofs.best_leaf.Statement.{statement}
 use Rattle.solve_rule1.proofs.best_leaf.Tie as tie

@@ -9,8 +9,8 @@ use denote.Ref.{now}
 use lib.ListN.{length, take, drop, length-take}
 use lib.Seq.{take-at, drop-at}
 use Rattle.graph.specs.Rule1.{Rule1}
-use Rattle.trees.proofs.Held.{tables-parents}
-use Rattle.solve_rule1.proofs.Held.{solved-length}
+use Rattle.base_tables.proofs.TreeLaws.{tables-parents}
+use Rattle.solve_rule1.proofs.SolvedTables.{solved-length}
 use Rattle.solve_rule1.proofs.configure.Statement.{statement}
 use Rattle.solve_rule1.proofs.configure.Tie as tie
 

@@ -5,8 +5,8 @@ use Prim.Native.Nat.{_+_, _-_, _≤_, _<_}
 use mathlib.Core.Path.{_≡_, sym, _∙_}
 use denote.Ref.{now}
 use Rattle.graph.specs.Rule1.{rise, depth}
-use Rattle.solve_rule1.specs.Given.{Solved}
-use Rattle.solve_rule1.proofs.Held.{up-within}
+use Rattle.solve_rule1.specs.Solved.{Solved}
+use Rattle.solve_rule1.proofs.SolvedTables.{up-within}
 use Rattle.solve_rule1.proofs.Climbing.{depth-start, rise-ends, rise-goes-on, rise-stops}
 use Rattle.solve_rule1.proofs.edges_above.Statement.{statement}
 use Rattle.solve_rule1.proofs.edges_above.Tie as tie

@@ -5,8 +5,8 @@ use mathlib.Core.Bool.{true, false}
 use denote.Ref.{now}
 use Rattle.base_nodeset.specs.Set.{mem}
 use Rattle.graph.specs.Graph.{leafOf}
-use Rattle.trees.proofs.Held.{tree-of, tables-parents, leaf-is, own-is}
-use Rattle.solve_rule1.proofs.Held.{shaped}
+use Rattle.base_tables.proofs.TreeLaws.{tree-of, tables-parents, leaf-is, own-is}
+use Rattle.solve_rule1.proofs.SolvedTables.{shaped}
 use Rattle.solve_rule1.proofs.is_leaf_of.Statement.{statement}
 use Rattle.solve_rule1.proofs.is_leaf_of.Tie as tie
 

@@ -8,7 +8,7 @@ use borrow.Author.Count.{below-none, below-more}
 use Rattle.base_finite.proofs.Laws.{least-is, least-none}
 use Rattle.graph.specs.Graph.{leafOf}
 use Rattle.graph.specs.Rule1.{lowestLeaf}
-use Rattle.solve_rule1.specs.Given.{GraphOf}
+use Rattle.solve_rule1.specs.Solved.{GraphOf}
 use Rattle.solve_rule1.proofs.lowest_leaf.Statement.{statement}
 use Rattle.solve_rule1.proofs.lowest_leaf.Tie as tie
 

@@ -10,8 +10,8 @@ use Rattle.base_finite.specs.Below.{any}
 use Rattle.base_nodeset.specs.Set.{mem}
 use Rattle.graph.specs.Rule1.{problemLeaf}
 use Rattle.theory_rule1.proofs.Shifting.{Problem}
-use Rattle.solve_rule1.specs.Given.{Solved}
-use Rattle.solve_rule1.proofs.Held.{solved-length, any-several, any-problem}
+use Rattle.solve_rule1.specs.Solved.{Solved}
+use Rattle.solve_rule1.proofs.SolvedTables.{solved-length, any-several, any-problem}
 use Rattle.solve_rule1.proofs.Choosing.{best-is}
 use Rattle.solve_rule1.proofs.Stepping.{staying-within, shifted-is}
 use Rattle.solve_rule1.proofs.step.Statement.{statement}

@@ -6,8 +6,8 @@ use mathlib.Core.Path.{_≡_, sym, _∙_}
 use denote.Ref.{now}
 use lib.ListN.{length}
 use borrow.Author.Tests.{not-true, not-false}
-use Rattle.solve_rule1.specs.Given.{Solved}
-use Rattle.solve_rule1.proofs.Held.{few, solved-length}
+use Rattle.solve_rule1.specs.Solved.{Solved}
+use Rattle.solve_rule1.proofs.SolvedTables.{few, solved-length}
 use Rattle.solve_rule1.proofs.Stepping.{few-steps, Reached, reached-none, reached-more, reached-end, reached-all, stepped-solved}
 use Rattle.solve_rule1.proofs.steps.Statement.{statement}
 use Rattle.solve_rule1.proofs.steps.Tie as tie

@@ -2,10 +2,10 @@
 use mathlib.Core.Path.{refl, _∙_}
 use denote.Ref.{now}
 use borrow.Author.Needs.{needs}
-use Rattle.rows.specs.Rows.{inRow}
+use Rattle.base_tables.specs.Rows.{inRow}
 use Rattle.solve_test.proofs.Solved.{answer-is}
 use Rattle.solve_test.proofs.Filled.{blank-rows, near-symmetric}
-use Rattle.trees.proofs.Held.{root-is}
+use Rattle.base_tables.proofs.TreeLaws.{root-is}
 use Rattle.solve_test.proofs.solvable.Statement.{statement}
 use Rattle.solve_test.proofs.solvable.Tie as tie
 

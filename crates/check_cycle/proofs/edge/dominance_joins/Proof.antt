@@ -2,7 +2,7 @@
 use mathlib.Core.Path.{_≡_, sym, _∙_}
 use mathlib.Core.Bool.{false}
 use Rattle.base_finite.proofs.Laws.{or-left}
-use Rattle.rows.specs.Rows.{inRow}
+use Rattle.base_tables.specs.Rows.{inRow}
 use Rattle.check_cycle.specs.Check.{dominanceJoins}
 use borrow.Author.Needs.{needs}
 use Rattle.check_cycle.proofs.edge.dominance_joins.Statement.{statement}

@@ -1,7 +1,7 @@
 -- The first half where b's root lies under a, and otherwise the second, since a solved form is in one of them.
 use mathlib.Core.Path.{sym, _∙_}
 use mathlib.Core.Logic.{inl, inr}
-use Rattle.trees.proofs.Held.{own-is}
+use Rattle.base_tables.proofs.TreeLaws.{own-is}
 use Rattle.check_placing.proofs.Guides.{first-half, second-half}
 use borrow.Author.Needs.{needs}
 use Rattle.check_placing.proofs.guide.half.Statement.{statement}

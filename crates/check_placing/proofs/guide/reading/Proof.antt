@@ -1,7 +1,7 @@
 -- The way starts at the graph itself.
 use denote.Ref.{now}
 use Rattle.theory_forest.proofs.Shape.{well-formed-shaped}
-use Rattle.trees.proofs.Held.{tree-of}
+use Rattle.base_tables.proofs.TreeLaws.{tree-of}
 use Rattle.check_placing.proofs.Guides.{started}
 use borrow.Author.Needs.{needs}
 use Rattle.check_placing.proofs.guide.reading.Statement.{statement}

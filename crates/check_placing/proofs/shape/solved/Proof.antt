@@ -3,7 +3,7 @@ use mathlib.Core.Path.{_≡_, sym, _∙_}
 use mathlib.Core.Bool.{true, false}
 use denote.Ref.{now}
 use Rattle.base_finite.specs.Below.{any}
-use Rattle.rows.specs.Rows.{inRow}
+use Rattle.base_tables.specs.Rows.{inRow}
 use borrow.Author.Needs.{needs}
 use Rattle.check_placing.proofs.shape.solved.Statement.{statement}
 use Rattle.check_placing.proofs.shape.solved.Tie as tie

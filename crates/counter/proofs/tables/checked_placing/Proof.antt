@@ -1,7 +1,7 @@
 -- 10, or the three answers.
 use native.Mathlib.Omega.{arith}
 use Rattle.counter.proofs.Answering.{small-placing, placing-answered}
-use Rattle.start.proofs.Starts.{parents-table, heads-long}
+use Rattle.solve_start.proofs.Starts.{parents-table, heads-long}
 use Rattle.counter.proofs.tables.checked_placing.Statement.{statement}
 use Rattle.counter.proofs.tables.checked_placing.Tie as tie
 

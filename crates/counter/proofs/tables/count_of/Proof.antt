@@ -2,7 +2,7 @@
 use mathlib.Core.Path.{refl}
 use borrow.Author.Tests.{not-true, not-false}
 use Rattle.counter.proofs.Answering.{no-count, a-count}
-use Rattle.start.proofs.Starts.{parents-table}
+use Rattle.solve_start.proofs.Starts.{parents-table}
 use borrow.Author.Needs.{needs}
 use Rattle.counter.proofs.tables.count_of.Statement.{statement}
 use Rattle.counter.proofs.tables.count_of.Tie as tie

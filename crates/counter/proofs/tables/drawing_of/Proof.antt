@@ -4,7 +4,7 @@ use mathlib.Core.Logic.{inl, inr}
 use native.Mathlib.Omega.{arith}
 use borrow.Author.Tests.{not-true, not-false}
 use Rattle.counter.proofs.Answering.{small-drawing, no-drawing, no-such-drawing, none-to-draw, drawable, drawn-so}
-use Rattle.start.proofs.Starts.{parents-table}
+use Rattle.solve_start.proofs.Starts.{parents-table}
 use borrow.Author.Needs.{needs}
 use Rattle.counter.proofs.tables.drawing_of.Statement.{statement}
 use Rattle.counter.proofs.tables.drawing_of.Tie as tie

@@ -3,7 +3,7 @@ use mathlib.Core.Path.{refl}
 use native.Mathlib.Omega.{arith}
 use borrow.Author.Tests.{not-true, not-false}
 use Rattle.counter.proofs.Answering.{unsolved-tables, small-reading, no-reading, read-on, none-left, past-last}
-use Rattle.start.proofs.Starts.{parents-table}
+use Rattle.solve_start.proofs.Starts.{parents-table}
 use borrow.Author.Needs.{needs}
 use Rattle.counter.proofs.tables.reading_of.Statement.{statement}
 use Rattle.counter.proofs.tables.reading_of.Tie as tie

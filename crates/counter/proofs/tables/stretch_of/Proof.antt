@@ -2,7 +2,7 @@
 use mathlib.Core.Path.{refl}
 use native.Mathlib.Omega.{arith}
 use borrow.Author.Tests.{not-true, not-false}
-use Rattle.start.proofs.Starts.{parents-table}
+use Rattle.solve_start.proofs.Starts.{parents-table}
 use Rattle.counter.proofs.Answering.{unsolved-tables, no-reading, small-stretch, unread-stretch, none-after, read-after}
 use borrow.Author.Needs.{needs}
 use Rattle.counter.proofs.tables.stretch_of.Statement.{statement}

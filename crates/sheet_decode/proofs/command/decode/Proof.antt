@@ -3,7 +3,7 @@ use mathlib.Core.Bool.{true}
 use native.Mathlib.Omega.{arith}
 use denote.Ref.{now}
 use borrow.Author.Needs.{needs}
-use Rattle.graph.specs.Sheet.{takesTwo}
+use Rattle.format.specs.Sheet.{takesTwo}
 use Rattle.sheet_decode.proofs.Steps.{step-missing, step-end, step-unknown, step-short, step-tree, step-dominance}
 use Rattle.sheet_decode.proofs.command.decode.Statement.{statement}
 use Rattle.sheet_decode.proofs.command.decode.Tie as tie

@@ -1,7 +1,6 @@
-use Prim.Native.Nat.{ℕ, _+_, _-_, _≤_, _<_}
+use Prim.Native.Nat.{_-_, _≤_, _<_}
 use mathlib.Core.Path.{_≡_, refl, sym, _∙_}
 use native.Mathlib.Omega.{arith}
-use lib.ListN.{getD}
 use Rattle.sheet_decode.specs.Judge.{risesIn}
 use Rattle.sheet_decode.proofs.Judges.{rises-stops, rises-goes-on, rises-top}
 use borrow.Author.Needs.{needs}

@@ -1,6 +1,7 @@
 use denote.Ref.{now}
 use lib.ListN.{drop}
-use Rattle.sheet_decode.proofs.Whole.{ended, parents-held, walk-refused, judge-refused, judge-accepted}
+use Rattle.sheet_decode.proofs.Whole.{ended, run-refused, judge-refused, judge-accepted}
+use Rattle.base_tables.proofs.Parents.{parents-held}
 use borrow.Author.Needs.{needs}
 use Rattle.sheet_decode.proofs.read.body.Statement.{statement}
 use Rattle.sheet_decode.proofs.read.body.Tie as tie
@@ -45,7 +46,7 @@ returns : tie.Need-returns
 returns c =
     let k = c .before .before .before .before .before .before .before .before .before .commands in
     let a = c .before .before .before .before .before .before .before .before .before .before .before .before .before .before .before .before .before in
-    walk-refused (a .args .n) (drop 2 (now (a .args .sheet))) _ _ _ (k .result) (k .ensures) (c .before .why .given .0 .0) (c .before .why .given .1)
+    run-refused (a .args .n) (drop 2 (now (a .args .sheet))) _ _ _ (k .result) (k .ensures) (c .before .why .given .0 .0) (c .before .why .given .1)
 
 same-length-4 : tie.Need-same-length-4
 same-length-4 c = search needs

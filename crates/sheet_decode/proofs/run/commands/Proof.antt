@@ -1,12 +1,12 @@
-use mathlib.Core.Path.{refl, sym, _∙_}
+use mathlib.Core.Path.{refl}
 use mathlib.Core.List.{[]}
 use Prim.Native.Nat.{_-_}
 use native.Mathlib.Omega.{arith}
 use lib.ListN.{length}
 use denote.Ref.{now}
 use borrow.Author.Needs.{needs}
-use Rattle.sheet_decode.proofs.Runs.{goes-on, walking-on, walked}
-use Rattle.sheet_decode.specs.Run.{Walking}
+use Rattle.sheet_decode.proofs.Runs.{goes-on, running-on, ran}
+use Rattle.sheet_decode.specs.Run.{Running}
 use Rattle.sheet_decode.proofs.run.commands.Statement.{statement}
 use Rattle.sheet_decode.proofs.run.commands.Tie as tie
 use Rattle.sheet_decode.proofs.run.commands.Reads as reads
@@ -15,7 +15,7 @@ use Rattle.sheet_decode.proofs.turn.take.Reads as take-reads
 use Rattle.sheet_decode.proofs.run.stop.Reads as stop-reads
 
 abbrev Inv-loop : tie.InvT-loop
-Inv-loop sheet n parent₀ low₀ high₀ at₀ edges₀ parent low high at edges = Walking n sheet parent low high at edges
+Inv-loop sheet n parent₀ low₀ high₀ at₀ edges₀ parent low high at edges = Running n sheet parent low high at edges
 
 abbrev μ-loop : tie.MeasureT-loop
 μ-loop sheet n parent₀ low₀ high₀ at₀ edges₀ parent low high at edges = length sheet - at
@@ -46,7 +46,7 @@ returns c =
     let l = c .before .before .before .before .before .before .before .before .before .before .before .before .loop in
     let a = c .before .before .before .before .before .before .before .before .before .before .before .before .before .before .before .before .before .args in
     let k = c .before .before .before .before .before .before .before .before .take in
-    walked (a .n) (now (a .sheet)) (l .parent) (l .low) (l .high) (l .at) (l .edges) (l .inv) _ _ _ (k .result) (k .ensures .0) _ (c .before .match .keys2) (c .stop .ensures)
+    ran (a .n) (now (a .sheet)) (l .parent) (l .low) (l .high) (l .at) (l .edges) (l .inv) _ _ _ (k .result) (k .ensures .0) _ (c .before .match .keys2) (c .stop .ensures)
 
 add-at : tie.Need-add-at Inv-loop μ-loop
 add-at c =
@@ -63,7 +63,7 @@ loop-again c =
     let l = c .before .before .before .before .before .before .before .before .before .before .before .before .before .loop in
     let a = c .before .before .before .before .before .before .before .before .before .before .before .before .before .before .before .before .before .before .args in
     let k = c .before .before .before .before .before .before .before .before .before .take in
-    walking-on (a .n) (now (a .sheet)) (l .parent) (l .low) (l .high) (l .at) (l .edges) (l .inv) _ _ _ (k .result) (k .ensures .0) _ (c .before .turn .given .1)
+    running-on (a .n) (now (a .sheet)) (l .parent) (l .low) (l .high) (l .at) (l .edges) (l .inv) _ _ _ (k .result) (k .ensures .0) _ (c .before .turn .given .1)
 
 pub commands-spec : {M : Type 1} → statement M
 commands-spec =

@@ -1,8 +1,6 @@
-use mathlib.Core.Path.{refl}
-use mathlib.Core.Path.{sym, _∙_}
+use mathlib.Core.Path.{sym}
 use native.Mathlib.Omega.{arith}
 use denote.Ref.{now}
-use lib.ListN.{getD}
 use borrow.Author.Tests.{le-leb, lt-leb}
 use Rattle.sheet_decode.proofs.Turns.{beyond-first, beyond-second, within, heads-set}
 use borrow.Author.Needs.{needs}

@@ -8,7 +8,7 @@ use Rattle.graph.specs.Graph.{Graph}
 use Rattle.theory_list.proofs.Keeping.{first-fresh}
 use Rattle.solve_reduce.specs.Reduced.{Wide}
 use Rattle.solve_branch.specs.Decisions.{Kept}
-use Rattle.solve_branch.specs.Given.{Owned}
+use Rattle.solve_branch.specs.Fits.{Owned}
 use Rattle.solve_branch.specs.States.{Diving}
 use Rattle.solve_branch.specs.Levels.{Levels, Saved}
 use Rattle.solve_branch.proofs.Walks.{found-bounds}

@@ -8,7 +8,7 @@ use Rattle.solve_reduce.specs.Reduced.{Wide}
 use Rattle.theory_walk.specs.Walk.{graphAt, Valid}
 use Rattle.theory_walk.proofs.Decisions.{graph-nodes}
 use Rattle.solve_branch.specs.Decisions.{decisions}
-use Rattle.solve_branch.specs.Given.{Reduction, Owned}
+use Rattle.solve_branch.specs.Fits.{Reduction, Owned}
 use Rattle.solve_branch.specs.Levels.{Saved}
 use Rattle.solve_branch.proofs.Fitting.{reduction-at, at-reduction, replayed}
 use borrow.Author.Needs.{needs}

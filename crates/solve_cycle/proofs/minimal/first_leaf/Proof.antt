@@ -8,7 +8,7 @@ use borrow.Author.Count.{below-more}
 use Rattle.base_finite.specs.Below.{any}
 use Rattle.base_finite.proofs.Laws.{any-ext, any-none, least-is, least-none}
 use Rattle.base_nodeset.specs.Set.{mem}
-use Rattle.rows.specs.Rows.{inRow}
+use Rattle.base_tables.specs.Rows.{inRow}
 use Rattle.base_nodeset.proofs.Members.{some-member, no-member}
 use borrow.Author.Needs.{needs}
 use Rattle.solve_cycle.proofs.minimal.first_leaf.Statement.{statement}

@@ -1,6 +1,6 @@
 -- The rows are those of each graph that the tables hold.
 use Rattle.theory_forest.proofs.Shape.{well-formed-shaped}
-use Rattle.trees.proofs.Held.{tree-of}
+use Rattle.base_tables.proofs.TreeLaws.{tree-of}
 use borrow.Author.Needs.{needs}
 use Rattle.solve_cycle.proofs.minimal.has_form.Statement.{statement}
 use Rattle.solve_cycle.proofs.minimal.has_form.Tie as tie

@@ -3,7 +3,7 @@ use Prim.Native.Nat.{_-_, _≤_}
 use mathlib.Core.Path.{_≡_, _∙_, sym}
 use native.Mathlib.Omega.{arith}
 use denote.Ref.{now}
-use Rattle.rows.specs.Rows.{Long}
+use Rattle.base_tables.specs.Rows.{Long}
 use Rattle.solve_cycle.specs.Thinning.{Unsolved, Thinned, before}
 use Rattle.solve_cycle.proofs.Thins.{thinned-start}
 use Rattle.solve_cycle.proofs.minimal.minimize.Statement.{statement}

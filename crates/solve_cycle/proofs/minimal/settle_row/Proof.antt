@@ -7,7 +7,7 @@ use denote.Ref.{now}
 use Rattle.base_finite.specs.Below.{count}
 use Rattle.base_nodeset.specs.Set.{mem}
 use Rattle.graph.specs.Graph.{Graph}
-use Rattle.rows.specs.Rows.{Long}
+use Rattle.base_tables.specs.Rows.{Long}
 use Rattle.base_nodeset.proofs.Members.{no-member, lowest-in, one-less}
 use Rattle.solve_cycle.specs.Thinning.{Thinned, before}
 use Rattle.solve_cycle.proofs.Thins.{rowSettled, row-start, row-more, row-end}

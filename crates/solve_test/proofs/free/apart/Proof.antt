@@ -6,7 +6,7 @@ use borrow.Author.Needs.{needs}
 use Rattle.base_finite.specs.Below.{count}
 use Rattle.base_nodeset.specs.Set.{mem}
 use Rattle.base_nodeset.proofs.Members.{small-set, some-member, no-member, empty-set, lowest-in, one-less}
-use Rattle.rows.specs.Rows.{inRow}
+use Rattle.base_tables.specs.Rows.{inRow}
 use Rattle.solve_test.proofs.Rounds.{ApartSo, apart-start, not-apart, apart-last, apart-more, apart-end}
 use Rattle.solve_test.proofs.free.apart.Statement.{statement}
 use Rattle.solve_test.proofs.free.apart.Tie as tie

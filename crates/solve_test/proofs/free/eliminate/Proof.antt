@@ -6,7 +6,7 @@ use Rattle.base_finite.proofs.Laws.{any-found}
 use Rattle.base_finite.specs.Below.{count}
 use Rattle.base_nodeset.specs.Set.{mem}
 use Rattle.base_nodeset.proofs.Members.{some-member, no-member}
-use Rattle.rows.specs.Rows.{inRow}
+use Rattle.base_tables.specs.Rows.{inRow}
 use Rattle.solve_test.specs.Free.{Taking, none-taken}
 use Rattle.solve_test.proofs.Rounds.{taking-trans}
 use Rattle.solve_test.proofs.free.eliminate.Statement.{statement}

@@ -5,7 +5,7 @@ use borrow.Author.Needs.{needs}
 use Rattle.base_finite.specs.Below.{count}
 use Rattle.base_nodeset.specs.Set.{mem}
 use Rattle.base_nodeset.proofs.Members.{small-set, no-member, lowest-in}
-use Rattle.rows.specs.Rows.{inRow}
+use Rattle.base_tables.specs.Rows.{inRow}
 use Rattle.solve_test.proofs.Spreading.{Growing, growing-starts, growing-on, fewer-open, grown, spread-from}
 use Rattle.solve_test.proofs.free.grow.Statement.{statement}
 use Rattle.solve_test.proofs.free.grow.Tie as tie

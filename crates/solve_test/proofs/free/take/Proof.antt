@@ -1,7 +1,7 @@
 -- The test of the leaves decides.
 use denote.Ref.{now}
 use borrow.Author.Needs.{needs}
-use Rattle.rows.specs.Rows.{inRow}
+use Rattle.base_tables.specs.Rows.{inRow}
 use Rattle.solve_test.proofs.Rounds.{taken-out, not-taken}
 use Rattle.solve_test.proofs.free.take.Statement.{statement}
 use Rattle.solve_test.proofs.free.take.Tie as tie

@@ -4,7 +4,7 @@ use borrow.Author.Needs.{needs}
 use Rattle.base_finite.specs.Below.{count}
 use Rattle.base_nodeset.specs.Set.{mem}
 use Rattle.base_nodeset.proofs.Members.{small-set, no-member, lowest-in, one-less}
-use Rattle.rows.specs.Rows.{inRow}
+use Rattle.base_tables.specs.Rows.{inRow}
 use Rattle.solve_test.proofs.Rounds.{TopsSo, tops-start, tops-more, tops-end}
 use Rattle.solve_test.proofs.free.tops.Statement.{statement}
 use Rattle.solve_test.proofs.free.tops.Tie as tie

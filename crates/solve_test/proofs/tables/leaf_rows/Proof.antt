@@ -2,7 +2,7 @@
 use Prim.Native.Nat.{_-_, _≤_}
 use native.Mathlib.Omega.{arith}
 use borrow.Author.Needs.{needs}
-use Rattle.rows.specs.Rows.{Long}
+use Rattle.base_tables.specs.Rows.{Long}
 use Rattle.solve_test.proofs.Filled.{LeafSo, leaves-start, leaves-more, leaves-end}
 use Rattle.solve_test.proofs.tables.leaf_rows.Statement.{statement}
 use Rattle.solve_test.proofs.tables.leaf_rows.Tie as tie

@@ -6,7 +6,7 @@ use native.Mathlib.Omega.{arith}
 use lib.ListN.{length}
 use Rattle.graph.specs.Graph.{Graph}
 use Rattle.solve_reduce.specs.Reduced.{Wide}
-use Rattle.solve_branch.specs.Given.{Fits}
+use Rattle.solve_branch.specs.Fits.{Fits}
 use Rattle.solve_branch.specs.States.{Enters}
 use Rattle.solve_branch.specs.Levels.{Levels, Saved}
 use Rattle.solve_branch.proofs.Walks.{found-none, found-choice, found-room, found-bounds}

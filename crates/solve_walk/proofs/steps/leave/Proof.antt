@@ -7,7 +7,7 @@ use Rattle.graph.specs.Graph.{Graph}
 use Rattle.solve_reduce.specs.Reduced.{Wide}
 use Rattle.theory_walk.specs.Walk.{Leaving}
 use Rattle.solve_branch.specs.Decisions.{decisions}
-use Rattle.solve_branch.specs.Given.{Fits}
+use Rattle.solve_branch.specs.Fits.{Fits}
 use Rattle.solve_branch.specs.Levels.{Saved}
 use Rattle.solve_branch.proofs.Walks.{leaving-last, turned, dropped-first, dropped-second, left-all}
 use Rattle.solve_branch.proofs.Fitting.{within-fewer}

@@ -1,0 +1,4 @@
+pub mod Stored
+pub mod Parents
+pub mod TreeLaws
+pub mod Climbing

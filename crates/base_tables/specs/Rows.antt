@@ -1,0 +1,35 @@
+-- Tables that code works on, and what they hold. A table of rows has 128 sets of nodes, two words each, in two lists.
+use Prim.Native.Nat.{ℕ}
+use mathlib.Core.Path.{_≡_}
+use mathlib.Core.List.{List}
+use mathlib.Core.Bool.{Bool, true, cond}
+use mathlib.Core.Logic.{_↔_}
+use lib.Dec.{eqb}
+use lib.ListN.{length, getD}
+use Rattle.base_nodeset.specs.Set.{member, mem}
+use Rattle.base_nodeset.specs.declared.NodeSet.{NodeSet}
+use Rattle.graph.specs.Graph as spec
+
+-- a table of rows has 128
+abbrev pub Long : List ℕ → List ℕ → Type 0
+Long low high = (length low ≡ 128) × (length high ≡ 128)
+
+-- v is in row u
+abbrev pub inRow : List ℕ → List ℕ → ℕ → ℕ → Bool
+inRow low high u v = member (getD low u 0) (getD high u 0) v
+
+-- the set r is row u
+abbrev pub IsRow : (ℕ → ℕ → Bool) → ℕ → NodeSet → Type 0
+IsRow rows u r = (v : ℕ) → mem r v ≡ rows u v
+
+-- the set s stands at i, and the others are as they were
+pub record RowPut (i : ℕ) (s : NodeSet) (low high low′ high′ : List ℕ) : Type 0 where
+  pub low-long : length low′ ≡ length low
+  pub high-long : length high′ ≡ length high
+  pub row-is : (u v : ℕ) → inRow low′ high′ u v ≡ cond (eqb u i) (mem s v) (inRow low high u v)
+
+-- the rows hold the relation R
+pub record Rows (R : ℕ → ℕ → Type 0) (low high : List ℕ) : Type 0 where
+  pub low-long : length low ≡ 128
+  pub high-long : length high ≡ 128
+  pub row-is : (u v : ℕ) → (inRow low high u v ≡ true) ↔ R u v

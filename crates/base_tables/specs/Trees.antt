@@ -1,0 +1,59 @@
+-- A table of parents: the trees that it holds, the way from a node up to the root of its fragment, the edges between two
+-- nodes, the roots and the inner nodes.
+use Prim.Native.Nat.{ℕ, zero, suc, _≤_, _<_}
+use mathlib.Core.Path.{_≡_}
+use mathlib.Core.List.{List}
+use mathlib.Core.Bool.{Bool, cond, _&&_, _||_}
+use lib.Dec.{eqb, ltb}
+use lib.ListN.{length, getD}
+use Rattle.base_finite.specs.Below.{any}
+use Rattle.base_nodeset.specs.Set.{mem}
+use Rattle.base_nodeset.specs.declared.NodeSet.{NodeSet}
+use Rattle.graph.specs.Graph.{Graph, parent, none}
+
+-- A table of parents of n nodes: each is a node or `none`.
+pub record Parents (n : ℕ) (parents : List ℕ) : Type 0 where
+  pub few : n ≤ 128
+  pub long : length parents ≡ 128
+  pub node-or-none : (v : ℕ) → v < n → (getD parents v 0 ≡ none → ⊥) → getD parents v 0 < n
+
+-- the table of parents holds the trees of g, whatever its dominance edges
+pub record TreeOf (g : Graph) (n : ℕ) (parents : List ℕ) : Type 0 where
+  pub nodes : n ≡ g .nodes
+  pub parent-is : (v : ℕ) → v < 128 → getD parents v 0 ≡ parent (g .tree) v
+
+-- from v up to a node without a parent, k edges at most
+unfoldable pub topIn : ℕ → List ℕ → ℕ → ℕ
+topIn zero parents v = v
+topIn (suc k) parents v = cond (eqb (getD parents v 0) none) v (topIn k parents (getD parents v 0))
+
+-- a table that has of each of the first k nodes the root of its fragment, and the bytes from k on that it had
+pub record Filled (n : ℕ) (parents old owners : List ℕ) (k : ℕ) : Type 0 where
+  pub long : length owners ≡ length old
+  pub top-is : (v : ℕ) → v < k → getD owners v 0 ≡ topIn n parents v
+  pub within : (v : ℕ) → v < k → getD owners v 0 < n
+  pub others : (v : ℕ) → k ≤ v → getD owners v 0 ≡ getD old v 0
+
+-- one of the two is the other's parent
+unfoldable pub tiedIn : List ℕ → ℕ → ℕ → Bool
+tiedIn parents u v = eqb (getD parents v 0) u || eqb (getD parents u 0) v
+
+-- v is the parent of a node
+unfoldable pub innerIn : ℕ → List ℕ → ℕ → Bool
+innerIn n parents v = any n (λ c. eqb (getD parents c 0) v)
+
+-- v is a node without a parent
+unfoldable pub rootIn : ℕ → List ℕ → ℕ → Bool
+rootIn n parents v = ltb v n && eqb (getD parents v 0) none
+
+abbrev pub WithParent : NodeSet → ℕ → NodeSet → Type 0
+WithParent s above r = (v : ℕ) → v < 128 → mem r v ≡ (mem s v || eqb above v)
+
+abbrev pub InnerSet : ℕ → List ℕ → NodeSet → Type 0
+InnerSet n parents r = (v : ℕ) → v < 128 → mem r v ≡ innerIn n parents v
+
+abbrev pub WithRoot : NodeSet → ℕ → ℕ → NodeSet → Type 0
+WithRoot s v above r = (u : ℕ) → mem r u ≡ (eqb u v && eqb above none || mem s u)
+
+abbrev pub RootSet : ℕ → List ℕ → NodeSet → Type 0
+RootSet n parents r = (v : ℕ) → mem r v ≡ rootIn n parents v

@@ -1,0 +1,110 @@
+// A table of parents: the way from a node up to its fragment's root, the roots, the inner nodes and the leaves.
+use crate::NONE;
+use base_nodeset::NodeSet;
+ghost use mathlib.Core.Path.{_≡_};
+ghost use Prim.Native.Nat.{ℕ, _≤_, _<_};
+ghost use lib.Dec.{ltb};
+ghost use lib.ListN.{length};
+ghost use Rattle.base_nodeset.specs.Set.{mem};
+ghost use Rattle.graph.specs.Graph.{Graph, leaf};
+ghost use Rattle.theory_forest.specs.Shape.{Shaped};
+ghost use Rattle.base_tables.specs.Trees.{Parents, InnerSet, RootSet, WithParent, WithRoot, TreeOf, topIn, Filled, tiedIn};
+
+// The root of v's fragment: up to a node without a parent.
+pub fn own(parent: &[u8], n: usize, v: usize) -> usize
+    requires { ⌜ Parents n (now parent) × (v < n) ⌝ }
+    ensures { λ r. ⌜ (r ≡ topIn n (now (parent .entry)) v) × (r < n) ⌝ }
+{
+    let mut at = v;
+    let mut left = n;
+    while 0 < left {
+        let above = parent[at];
+        if above == NONE {
+            return at;
+        }
+        at = above as usize;
+        left -= 1;
+    }
+    at
+}
+
+// The root of each node's fragment.
+pub fn owners(parent: &[u8], n: usize, owner: &mut [u8])
+    requires { ⌜ Parents n (now parent) × (n ≤ length (now owner)) ⌝ }
+    ensures { λ _. ⌜ Filled n (now (parent .entry)) (now (owner .entry)) (now (owner .exit)) n ⌝ }
+{
+    for v in 0..n {
+        owner[v] = own(parent, n, v) as u8;
+    }
+}
+
+// One of the two is the other's parent.
+pub fn tied(parent: &[u8], u: usize, v: usize) -> bool
+    requires { ⌜ (length (now parent) ≡ 128) × (u < 128) × (v < 128) ⌝ }
+    ensures { λ r. ⌜ r ≡ tiedIn (now (parent .entry)) u v ⌝ }
+{
+    if parent[v] as usize == u {
+        return true;
+    }
+    parent[u] as usize == v
+}
+
+fn with_parent(set: NodeSet, above: u8) -> NodeSet
+    ensures { λ r. ⌜ WithParent set above r ⌝ }
+{
+    if above < 128 {
+        set.with(above as usize)
+    } else {
+        set
+    }
+}
+
+// The nodes that are some node's parent.
+pub fn inner_nodes(parent: &[u8], n: usize) -> NodeSet
+    requires { ⌜ Parents n (now parent) ⌝ }
+    ensures { λ r. ⌜ InnerSet n (now (parent .entry)) r ⌝ }
+{
+    let mut set = NodeSet::empty();
+    for v in 0..n {
+        set = with_parent(set, parent[v]);
+    }
+    set
+}
+
+fn with_root(set: NodeSet, v: usize, above: u8) -> NodeSet
+    requires { ⌜ v < 128 ⌝ }
+    ensures { λ r. ⌜ WithRoot set v above r ⌝ }
+{
+    if above == NONE { set.with(v) } else { set }
+}
+
+// The nodes without a parent.
+pub fn root_nodes(parent: &[u8], n: usize) -> NodeSet
+    requires { ⌜ Parents n (now parent) ⌝ }
+    ensures { λ r. ⌜ RootSet n (now (parent .entry)) r ⌝ }
+{
+    let mut set = NodeSet::empty();
+    for v in 0..n {
+        set = with_root(set, v, parent[v]);
+    }
+    set
+}
+
+// The numbers below n.
+fn numbers(n: usize) -> NodeSet
+    requires { ⌜ n ≤ 128 ⌝ }
+    ensures { λ r. ⌜ ((v : ℕ) → mem r v ≡ ltb v n) ⌝ }
+{
+    let mut set = NodeSet::empty();
+    for v in 0..n {
+        set = set.with(v);
+    }
+    set
+}
+
+pub fn leaf_nodes(parent: &[u8], n: usize) -> NodeSet
+    requires { ⌜ Parents n (now parent) ⌝ }
+    ensures { λ r. ⌜ ((g : Graph) → Shaped g → TreeOf g n (now (parent .entry)) → (v : ℕ) → mem r v ≡ leaf g v) ⌝ }
+{
+    numbers(n).difference(inner_nodes(parent, n))
+}

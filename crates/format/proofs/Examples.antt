@@ -1,0 +1,68 @@
+-- Small facts that hold the definitions to document 01's own examples: the drawing and the line of the chain's reading 1, the
+-- order of refusals, a tidy sheet.
+use mathlib.Core.Path.{_≡_, refl}
+use mathlib.Core.List.{[], _∷_}
+use Rattle.base_finite.specs.Below.{any, spread, select}
+use Rattle.graph.specs.Graph.{among, entered, left, root, leaf, parent, top, own, leafOf, rises, cyclic}
+use Rattle.format.specs.Sheet.{refused, bare, astray, whole, takesTwo, beyond, commands, outcome, tidyTree, tidyDominance, tidy}
+use Rattle.graph.specs.Placing.{hangs}
+use Rattle.format.specs.Text.{digits, decimal, readingLine}
+use Rattle.format.specs.Drawing.{separated, leafText, fragmentText, drawing}
+use Rattle.format.specs.declared.Refusal.the-variants.{Missing, Command, Range, Tree, Bare, Ends, Repeated}
+use Rattle.graph.proofs.Examples.{chain, chain-first}
+
+-- "Reading 1 is drawn 0(1[6(7)],2[3(4[8(9)],5[10(11)])])."
+drawn : drawing chain chain-first
+    ≡ 48 ∷ 40 ∷ 49 ∷ 91 ∷ 54 ∷ 40 ∷ 55 ∷ 41 ∷ 93 ∷ 44 ∷ 50 ∷ 91 ∷ 51 ∷ 40 ∷ 52 ∷ 91 ∷ 56 ∷ 40 ∷ 57 ∷ 41 ∷ 93 ∷ 44
+    ∷ 53 ∷ 91 ∷ 49 ∷ 48 ∷ 40 ∷ 49 ∷ 49 ∷ 41 ∷ 93 ∷ 41 ∷ 93 ∷ 41 ∷ []
+unfolding chain chain-first drawing fragmentText leafText separated decimal digits hangs root leaf entered left leafOf own top parent any select spread
+drawn = refl
+
+-- the line "1 3:2 6:1 8:4 10:5", and "1" alone where nothing hangs
+first-line : readingLine chain 1 chain-first
+    ≡ 49 ∷ 32 ∷ 51 ∷ 58 ∷ 50 ∷ 32 ∷ 54 ∷ 58 ∷ 49 ∷ 32 ∷ 56 ∷ 58 ∷ 52 ∷ 32 ∷ 49 ∷ 48 ∷ 58 ∷ 53 ∷ 10 ∷ []
+unfolding chain chain-first readingLine decimal digits root entered spread
+first-line = refl
+
+-- The order of refusals: operands are missed before they are out of range; a repeat is told before the bounds of a whole sheet.
+nothing : outcome [] ≡ refused Missing
+unfolding outcome
+nothing = refl
+
+unknown-first : outcome (5 ∷ []) ≡ refused Command
+unfolding outcome
+unknown-first = refl
+
+too-many-nodes : outcome (1 ∷ 129 ∷ []) ≡ refused Range
+unfolding outcome
+too-many-nodes = refl
+
+most-nodes : outcome (1 ∷ 128 ∷ []) ≡ refused Missing
+unfolding outcome commands
+most-nodes = refl
+
+bare-nodes : outcome (1 ∷ 2 ∷ 0 ∷ []) ≡ refused Bare
+unfolding outcome commands takesTwo whole cyclic rises bare astray entered left any
+bare-nodes = refl
+
+operand-missing-first : outcome (1 ∷ 2 ∷ 2 ∷ 9 ∷ []) ≡ refused Missing
+unfolding outcome commands takesTwo
+operand-missing-first = refl
+
+tree-loop-before-bare : outcome (1 ∷ 3 ∷ 2 ∷ 0 ∷ 1 ∷ 2 ∷ 1 ∷ 0 ∷ 0 ∷ []) ≡ refused Tree
+unfolding outcome commands takesTwo beyond whole cyclic rises bare astray entered left parent any
+tree-loop-before-bare = refl
+
+astray-edge : outcome (1 ∷ 2 ∷ 2 ∷ 0 ∷ 1 ∷ 3 ∷ 0 ∷ 0 ∷ 0 ∷ []) ≡ refused Ends
+unfolding outcome commands takesTwo beyond whole cyclic rises bare astray among entered left parent root leaf any
+astray-edge = refl
+
+repeat-before-astray : outcome (1 ∷ 2 ∷ 2 ∷ 0 ∷ 1 ∷ 3 ∷ 0 ∷ 0 ∷ 3 ∷ 0 ∷ 0 ∷ 0 ∷ []) ≡ refused Repeated
+unfolding outcome commands takesTwo beyond whole cyclic rises bare astray among entered left parent root leaf any
+repeat-before-astray = refl
+
+-- the tidy sheet of the chain's first fragment, whatever the order of its commands
+tidied : tidy (record { nodes = 3; tree = (0, 2) ∷ (0, 1) ∷ []; dominance = (2, 0) ∷ (1, 0) ∷ [] })
+    ≡ 1 ∷ 3 ∷ 2 ∷ 0 ∷ 1 ∷ 2 ∷ 0 ∷ 2 ∷ 3 ∷ 1 ∷ 0 ∷ 3 ∷ 2 ∷ 0 ∷ 0 ∷ []
+unfolding tidy tidyTree tidyDominance among spread
+tidied = refl

@@ -1,0 +1,4 @@
+pub mod Refusal
+pub mod Sheet
+pub mod Text
+pub mod Drawing

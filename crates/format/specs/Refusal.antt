@@ -1,0 +1,28 @@
+-- The numbers of the refusals (document 01, "Who can cause which refusal").
+use Prim.Native.Nat.{ℕ}
+use Rattle.format.specs.declared.Refusal.{Refusal}
+use Rattle.format.specs.declared.Refusal.the-variants.{Missing, Command, Range, Tree, Bare, Ends, Repeated, TooMany, NoReading, SmallBuffer, NoSuchReading}
+
+abbrev pub number : Refusal → ℕ
+-- a needed byte is missing
+number Missing = 1
+-- the command byte is unknown or out of place, or a byte follows the end
+number Command = 2
+-- n is outside 2 to 128, or an operand is n or more
+number Range = 3
+-- a tree edge has p equal to c, or c already has a parent, or tree edges form a cycle
+number Tree = 4
+-- a node has no tree edge
+number Bare = 5
+-- a dominance edge doesn't go from a leaf to a root
+number Ends = 6
+-- the dominance edge has stood before
+number Repeated = 7
+-- it would be the 256th
+number TooMany = 8
+-- no solved form exists
+number NoReading = 9
+-- a lent buffer is too small
+number SmallBuffer = 10
+-- the reading wanted has number 0 or lies beyond the count or beyond 65,535
+number NoSuchReading = 11

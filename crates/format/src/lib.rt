@@ -1,0 +1,37 @@
+// The bytes that come in and the text that goes out: what the definitions under specs/ speak of, and the refusals.
+ghost use mathlib.Core.Path.{_≡_};
+ghost use Rattle.format.specs.Refusal.{number};
+
+// The refusals of document 01, "Who can cause which refusal"; `number` of specs/Refusal.antt gives the number of each.
+pub enum Refusal {
+    Missing,
+    Command,
+    Range,
+    Tree,
+    Bare,
+    Ends,
+    Repeated,
+    TooMany,
+    NoReading,
+    SmallBuffer,
+    NoSuchReading,
+}
+
+// The number that document 01 gives to each refusal.
+pub fn number(why: Refusal) -> u8
+    ensures { λ r. ⌜ r ≡ number why ⌝ }
+{
+    match why {
+        Refusal::Missing => 1,
+        Refusal::Command => 2,
+        Refusal::Range => 3,
+        Refusal::Tree => 4,
+        Refusal::Bare => 5,
+        Refusal::Ends => 6,
+        Refusal::Repeated => 7,
+        Refusal::TooMany => 8,
+        Refusal::NoReading => 9,
+        Refusal::SmallBuffer => 10,
+        Refusal::NoSuchReading => 11,
+    }
+}

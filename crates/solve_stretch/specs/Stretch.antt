@@ -1,0 +1,26 @@
+-- Readings one after the other in the lent bytes.
+use Prim.Native.Nat.{ℕ, _+_, _-_, _≤_, _<_, min}
+use mathlib.Core.Path.{_≡_}
+use mathlib.Core.List.{List, _++_}
+use mathlib.Core.Logic.{_⊎_}
+use lib.ListN.{length, take, drop}
+use Rattle.graph.specs.Graph.{Graph}
+use Rattle.graph.specs.Order.{limit}
+use Rattle.theory_list.specs.Readings.{listed}
+use Rattle.solve_numbered.specs.Numbered.{joined}
+
+-- the placings that come after the first `passed`, up to the number `last`
+abbrev pub placings : List (List ℕ) → ℕ → ℕ → List ℕ
+placings ps passed last = joined (take (last - passed) (drop passed ps))
+
+-- Those are written, one at least, and no more are left or there is no place for one more.
+pub record Filled (g : Graph) (passed : ℕ) (old : List ℕ) (last : ℕ) (new : List ℕ) : Type 0 where
+  pub some : passed < last
+  pub within : last ≤ min (length (listed g)) limit
+  pub fits : length (placings (listed g) passed last) ≤ length old
+  pub bytes : new ≡ placings (listed g) passed last ++ drop (length (placings (listed g) passed last)) old
+  pub full : (last ≡ min (length (listed g)) limit) ⊎ (length old < length (placings (listed g) passed last) + g .nodes)
+
+-- or there is none after the first `passed`, and nothing is written
+abbrev pub StretchOf : Graph → ℕ → List ℕ → ℕ → List ℕ → Type 0
+StretchOf g passed old last new = ((min (length (listed g)) limit ≤ passed) × (last ≡ passed) × (new ≡ old)) ⊎ Filled g passed old last new

@@ -1,0 +1,20 @@
+-- Edges between the nodes of a graph.
+use Prim.Native.Nat.{ℕ, _<_, zero, suc, _+_}
+use mathlib.Core.Path.{_≡_}
+use mathlib.Core.List.{List}
+use mathlib.Core.Bool.{true}
+use Rattle.graph.specs.Graph.{Edge, among}
+use Rattle.base_finite.specs.Below.{count}
+
+-- the edges are between numbers below n
+abbrev pub Within : ℕ → List Edge → Type 0
+Within n es = (u v : ℕ) → among es u v ≡ true → (u < n) × (v < n)
+
+-- f 0 + f 1 + .. + f (n - 1)
+unfoldable pub sum : ℕ → (ℕ → ℕ) → ℕ
+sum zero f = 0
+sum (suc n) f = sum n f + f n
+
+-- how many pairs of numbers below n are among the edges
+unfoldable pub total : ℕ → List Edge → ℕ
+total n es = sum n (λ u. count n (among es u))

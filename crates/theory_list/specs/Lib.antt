@@ -1,0 +1,7 @@
+pub mod Redundancy
+pub mod Choosing
+pub mod Settled
+pub mod Readings
+pub mod Guided
+pub mod Keeping
+pub mod Unsolvable
