@@ -52,45 +52,6 @@ count-grows n p q i f h e t =
     let le : count n p ≤ count n rest = count-mono n p rest (λ k l pk. let d : k ≡ i → ⊥ = λ j. true≢false (sym pk ∙ (rw j e)) in rw (f k l pk, ne-eqb k i d)) in
     omega arith
 
-pub one-counted : (n : ℕ) (p : ℕ → Bool) (k : ℕ) → k < n → p k ≡ true → 1 ≤ count n p
-unfolding count
-one-counted zero p k h e = absurd (omega arith)
-one-counted (suc n) p k h e =
-    ⊎-elim
-    (λ (i : k ≡ n).
-    let t : p n ≡ true = rw i at e in
-    rw t (omega arith))
-    (λ (l : k < n). omega (arith, one-counted n p k l e))
-    (last-or-below h)
-
-pub two-counted : (n : ℕ) (p : ℕ → Bool) (l m : ℕ) → l < m → m < n → p l ≡ true → p m ≡ true → 2 ≤ count n p
-unfolding count
-two-counted zero p l m lower h e f = absurd (omega arith)
-two-counted (suc n) p l m lower h e f =
-    ⊎-elim
-    (λ (i : m ≡ n).
-    let t : p n ≡ true = rw i at f in
-    rw t (omega (arith, one-counted n p l (omega arith) e)))
-    (λ (b : m < n). omega (arith, two-counted n p l m lower b e f))
-    (last-or-below h)
-
-pub counted-some : (n : ℕ) (p : ℕ → Bool) → 1 ≤ count n p → (k : ℕ) × (k < n) × (p k ≡ true)
-counted-some n p h = any-found n p (some-counted n p h)
-
-pub counted-two : (n : ℕ) (p : ℕ → Bool) → 2 ≤ count n p → (l : ℕ) × (m : ℕ) × (l < m) × (m < n) × (p l ≡ true) × (p m ≡ true)
-unfolding count
-counted-two zero p h = absurd (omega arith)
-counted-two (suc n) p h =
-    by-bool (p n)
-    (λ (t : p n ≡ true).
-    let rest : 2 ≤ count n p + 1 = rw t at h in
-    let r = counted-some n p (omega arith) in
-    (r .0, n, r .1, omega arith, r .2, t))
-    (λ (t : p n ≡ false).
-    let rest : 2 ≤ count n p + 0 = rw t at h in
-    let r = counted-two n p (omega arith) in
-    (r .0, r .1, r .2, omega (arith, r .3), r .4, r .5))
-
 -- none, and one number more
 
 pub none-counted : (k : ℕ) (p : ℕ → Bool) → 0 < k → leb k (count 0 p) ≡ false

@@ -2,16 +2,15 @@
 -- A law named `..-more` is the step of a loop that counts up: what holds at n + 1.
 use Prim.Native.Nat.{ℕ, zero, suc, _+_, _≤_, _<_}
 use mathlib.Core.Path.{_≡_, refl, sym, _∙_}
-use mathlib.Core.List.{List, [], _∷_, _++_}
+use mathlib.Core.List.{List, _++_}
 use mathlib.Core.Bool.{Bool, true, false, cond, not, _||_, _&&_, true≢false, false≢true}
 use mathlib.Core.Logic.{_⊎_, inl, inr, ⊎-elim}
 use native.Mathlib.Nat.{eq-or-lt-of-le, le-of-suc-le-suc}
 use native.Mathlib.Numerals.{add-one}
 use native.Mathlib.Omega.{arith}
 use lib.Dec.{eqb}
-use lib.ListN.{length, length-append}
 use borrow.Author.Tests.{eq-eqb, ne-eqb, eqb-true, eqb-false}
-use Rattle.base_finite.specs.Below.{any, all, count, least, spread, select}
+use Rattle.base_finite.specs.Below.{any, all, count, least, spread}
 
 -- below suc n is below n, or n
 pub last-or-below : {k n : ℕ} → k < suc n → (k ≡ n) ⊎ (k < n)
@@ -133,10 +132,6 @@ any-cut m n p le f =
     (λ (e : any m p ≡ false). e ∙ sym (any-none n p (λ k h. any-false m p e k (omega arith))))
 
 -- every
-
-pub all-more : (n : ℕ) (p : ℕ → Bool) → all (n + 1) p ≡ (all n p && p n)
-unfolding all
-all-more n p = rw add-one
 
 pub all-at : (n : ℕ) (p : ℕ → Bool) → all n p ≡ true → (k : ℕ) → k < n → p k ≡ true
 unfolding all
@@ -268,14 +263,3 @@ pub spread-ext : {A : Type 0} (n : ℕ) (f g : ℕ → List A) → ((k : ℕ) �
 unfolding spread
 spread-ext zero f g h = refl
 spread-ext (suc n) f g h = rw (spread-ext n f g (λ k l. h k (omega arith)), h n (omega arith))
-
-pub select-more : (n : ℕ) (p : ℕ → Bool) → select (n + 1) p ≡ select n p ++ cond (p n) (n ∷ []) []
-unfolding select
-select-more n p = spread-more n (λ k. cond (p k) (k ∷ []) [])
-
-pub length-select : (n : ℕ) (p : ℕ → Bool) → length (select n p) ≡ count n p
-unfolding select spread count
-length-select zero p = refl
-length-select (suc n) p =
-    let ih : length (select n p) ≡ count n p = length-select n p in
-    by-bool (p n) (λ e. rw (length-append, e, ih)) (λ e. rw (length-append, e, ih))

@@ -9,7 +9,7 @@ use lib.ListN.{length, take, drop, take-append-drop}
 use lib.Seq.{take-at, drop-at}
 use denote.Enum.Declared.{tagOf}
 use Rattle.graph.specs.Graph.{Graph}
-use Rattle.graph.specs.Placing.{SolvedForm, Solvable}
+use Rattle.graph.specs.Placing.{SolvedForm, Solvable, Unsolvable}
 use Rattle.graph.specs.Order.{Listing, entry, limit, countAnswer}
 use Rattle.graph.specs.Cycle.{hypernormalCycle}
 use Rattle.graph.specs.Rule1.{Rule1}
@@ -34,7 +34,7 @@ use Rattle.solve_numbered.specs.Numbered.{Finds}
 use Rattle.solve_stretch.specs.Stretch as stretches
 use Rattle.solve_start.specs.Started.{WalkableOf}
 use Rattle.solve_start.specs.declared.Start.{Start}
-use Rattle.counter.specs.Calls.{Unsolvable, Counts, ReadingCall, StretchCall, ConfigurationCall, DrawingCall}
+use Rattle.counter.specs.Calls.{Counts, ReadingCall, StretchCall, ConfigurationCall, DrawingCall}
 use Rattle.counter.specs.Calls as calls
 use Rattle.counter.specs.Checks.{PlacingCall}
 use Rattle.counter.specs.Checks as checks
@@ -46,7 +46,7 @@ use Rattle.counter.proofs.Placed.{the-type}
 use Rattle.counter.specs.declared.PlacingChecked.the-variants.{Answers as Answered-so, Refused as PlacingRefused}
 
 -- a graph with a solved form has a reading
-some-listed : (g : Graph) → Shaped g → Solvable g → 0 < length (listed g)
+pub some-listed : (g : Graph) → Shaped g → Solvable g → 0 < length (listed g)
 some-listed g s f = let o = one-below g s (f .0) (f .1) in omega (arith, o .1)
 
 -- the first bytes of a buffer that a reading was written into

@@ -9,7 +9,7 @@ use mathlib.Core.Logic.{_⊎_}
 use lib.ListN.{length, take, drop}
 use Rattle.graph.specs.Graph.{Graph}
 use Rattle.format.specs.Sheet.{Outcome, refused, accepted}
-use Rattle.graph.specs.Placing.{Solvable}
+use Rattle.graph.specs.Placing.{Solvable, Unsolvable}
 use Rattle.graph.specs.Order.{Listing, entry, limit, countAnswer}
 use Rattle.graph.specs.Rule1.{HandedOut}
 use Rattle.graph.specs.Cycle.{hypernormalCycle}
@@ -23,10 +23,6 @@ use Rattle.counter.specs.declared.Placed.{Placed}
 use Rattle.counter.specs.declared.Placed.the-variants.{Done, NoReading, Refused}
 use Rattle.counter.specs.declared.Drawn.{Drawn}
 use Rattle.counter.specs.declared.Drawn.the-variants.{Length, Refused as DrawnRefused}
-
--- "no solved form exists": the refusal as having no reading
-abbrev pub Unsolvable : Graph → Type 0
-Unsolvable g = Solvable g → ⊥
 
 -- how many readings can be handed out: "beyond the count or beyond 65,535"
 abbrev pub reach : List (List ℕ) → ℕ

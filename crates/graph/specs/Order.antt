@@ -53,6 +53,10 @@ pub data Before : Graph → List ℕ → List ℕ → Type 0 where
 abbrev pub entry : List (List ℕ) → ℕ → List ℕ
 entry ps i = getD ps i []
 
+-- what is said of a list's entries holds of exactly one
+abbrev pub ExactlyOne : (List ℕ → Type 0) → List (List ℕ) → Type 0
+ExactlyOne P qs = (i : ℕ) × (i < length qs) × P (entry qs i) × ((j : ℕ) → j < length qs → P (entry qs j) → j ≡ i)
+
 -- The list of the readings in order: "the minimal solved forms, each once, in document 01's order".
 pub record Listing (g : Graph) (ps : List (List ℕ)) : Type 0 where
   pub only-readings : (i : ℕ) → i < length ps → Reading g (entry ps i)

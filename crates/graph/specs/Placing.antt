@@ -72,6 +72,9 @@ pub record Reading (g : Graph) (p : List ℕ) : Type 0 where
   pub solved : SolvedForm g p
   pub minimal : (q : List ℕ) → SolvedForm g q → StrictlySmaller (Below g q) (Below g p) → ⊥
 
--- "no solved form exists" (refusal 9) is that nothing is of this type
 abbrev pub Solvable : Graph → Type 0
 Solvable g = (p : List ℕ) × SolvedForm g p
+
+-- "no solved form exists": the refusal as having no reading (9)
+abbrev pub Unsolvable : Graph → Type 0
+Unsolvable g = Solvable g → ⊥

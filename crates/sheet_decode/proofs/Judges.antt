@@ -2,7 +2,7 @@
 use Prim.Native.Nat.{ℕ, zero, suc, _-_, _≤_, _<_}
 use mathlib.Core.Path.{_≡_, refl, sym, _∙_}
 use mathlib.Core.List.{List}
-use mathlib.Core.Bool.{true, false, not, _&&_}
+use mathlib.Core.Bool.{Bool, true, false, not, _&&_}
 use native.Mathlib.Omega.{arith}
 use lib.ListN.{getD}
 use borrow.Author.Tests.{eq-eqb, ne-eqb, lt-ltb}
@@ -19,7 +19,7 @@ use Rattle.format.specs.Sheet.{bare, astray, whole, refused, accepted}
 use Rattle.format.specs.declared.Refusal.the-variants.{Tree, Bare, Ends}
 use Rattle.base_tables.specs.Tables.{Holds}
 use Rattle.base_tables.specs.Trees.{InnerSet, RootSet, innerIn, rootIn}
-use Rattle.sheet_decode.specs.Judge.{risesIn, cyclicIn, strayIn, astrayIn}
+use Rattle.sheet_decode.specs.Judge.{risesIn, cyclicIn, strays, astrayIn}
 
 -- one edge up
 
@@ -44,13 +44,14 @@ rises-top (suc k) parents v h = absurd (omega arith)
 
 -- the edges of one row
 
-pub stray-inner : (row : NodeSet) (l : ℕ) (inner roots : NodeSet) → mem inner l ≡ true → strayIn row l inner roots ≡ any 128 (mem row)
-unfolding strayIn
+pub stray-inner : (row : NodeSet) (l : ℕ) (inner roots : NodeSet) → mem inner l ≡ true → strays (mem row) l inner roots ≡ any 128 (mem row)
 stray-inner row l inner roots e = any-ext 128 _ _ (λ k h. rw (e, and-true))
 
-pub stray-leaf : (row : NodeSet) (l : ℕ) (inner roots : NodeSet) → mem inner l ≡ false → strayIn row l inner roots ≡ any 128 (λ r. mem row r && not (mem roots r))
-unfolding strayIn
+pub stray-leaf : (row : NodeSet) (l : ℕ) (inner roots : NodeSet) → mem inner l ≡ false → strays (mem row) l inner roots ≡ any 128 (λ r. mem row r && not (mem roots r))
 stray-leaf row l inner roots e = any-ext 128 _ _ (λ k h. rw e)
+
+pub stray-row : (row : NodeSet) (q : ℕ → Bool) (l : ℕ) (inner roots : NodeSet) → ((v : ℕ) → mem row v ≡ q v) → strays (mem row) l inner roots ≡ strays q l inner roots
+stray-row row q l inner roots is = any-ext 128 _ _ (λ k h. rw (is k))
 
 -- the tests on tables that hold a graph's edges
 
@@ -100,7 +101,7 @@ module _ (n : ℕ) (t d : List Edge) (parents low high : List ℕ) (edges : ℕ)
         ∙ rw (is-roots v, is-inner v (omega arith), root-is v, inner-is v h, root-of-node v h, neither (entered t v) (left t v)))
 
     pub astray-held : astrayIn n low high inner roots ≡ astray (graphOf n t d)
-    unfolding astrayIn astray strayIn
+    unfolding astrayIn astray
     astray-held =
         any-ext n _ _ (λ l hl.
         any-cut 128 n _ few (λ r h m.

@@ -10,14 +10,17 @@ use native.Mathlib.Omega.{arith}
 use lib.Dec.{eqb, leb}
 use lib.ListN.{length, getD, set, drop, length-set}
 use lib.Seq.{getD-set-same, getD-set-other}
-use borrow.Author.Tests.{le-leb, lt-leb, leb-false, eqb-true, eqb-false}
-use Rattle.base_nodeset.specs.Set.{member}
+use borrow.Author.Tests.{le-leb, eqb-true, eqb-false}
+use Rattle.base_nodeset.specs.Set.{Inserted}
+use Rattle.base_nodeset.specs.declared.NodeSet.{NodeSet}
+use Rattle.base_tables.specs.Rows.{inRow, IsRow, RowPut}
 use Rattle.base_finite.proofs.Laws.{by-bool, or-right, or-none, eqb-sym}
 use Rattle.graph.specs.Graph.{Edge, among, entered, single, parent, none}
 use Rattle.format.specs.Sheet.{beyond, commands}
 use Rattle.format.specs.declared.Refusal.{Refusal}
 use Rattle.format.specs.declared.Refusal.the-variants.{Range, Tree as TreeRefusal, Repeated, TooMany}
 use Rattle.theory_edges.specs.Edges.{Within}
+use Rattle.theory_format.proofs.Spelling.{not-beyond}
 use Rattle.theory_edges.proofs.Edges.{among-cases}
 use Rattle.sheet_decode.specs.Step.{stepOf}
 use Rattle.sheet_decode.specs.declared.command.Step.the-variants.{Tree, Dominance, End, Refused as StepRefused}
@@ -36,26 +39,14 @@ pub beyond-second : (n x y : ℕ) → n ≤ y → beyond n x y ≡ true
 unfolding beyond
 beyond-second n x y h = or-right (leb n x) (leb n y) (le-leb n y h)
 
-pub within : (n x y : ℕ) → x < n → y < n → beyond n x y ≡ false
-unfolding beyond
-within n x y h k = rw (lt-leb n x h, lt-leb n y k)
-
 -- a set of roots with r put in at l, in the tables
-pub heads-set : (low high : List ℕ) (l r lo hi : ℕ) → l < length low → l < length high
-    → ((j : ℕ) → member lo hi j ≡ (eqb j r || member (getD low l 0) (getD high l 0) j))
-    → (a b : ℕ) → member (getD (set low l lo) a 0) (getD (set high l hi) a 0) b ≡ (eqb l a && eqb r b || member (getD low a 0) (getD high a 0) b)
-heads-set low high l r lo hi hl hh law a b =
-    by-bool (eqb l a)
-    (λ (e : eqb l a ≡ true).
-    let q : l ≡ a = eqb-true l a e in
-    rw (e, ← q, getD-set-same low l lo 0 hl, getD-set-same high l hi 0 hh, law b, eqb-sym b r))
-    (λ (e : eqb l a ≡ false).
-    let other : a ≡ l → ⊥ = λ q. eqb-false l a e (sym q) in
-    rw (e, getD-set-other low l a lo 0 other, getD-set-other high l a hi 0 other))
-
-not-beyond : (n x y : ℕ) → beyond n x y ≡ false → (x < n) × (y < n)
-unfolding beyond
-not-beyond n x y e = let b = or-none (leb n x) (leb n y) e in (leb-false n x (b .0), leb-false n y (b .1))
+pub heads-put : (l r : ℕ) (heads more : NodeSet) (low high low′ high′ : List ℕ) → IsRow (inRow low high) l heads → Inserted heads r more → RowPut l more low high low′ high′
+    → (a b : ℕ) → inRow low′ high′ a b ≡ (eqb l a && eqb r b || inRow low high a b)
+heads-put l r heads more low high low′ high′ is with-r put a b =
+    put .row-is a b
+    ∙ by-bool (eqb l a)
+    (λ (e : eqb l a ≡ true). rw (eqb-sym a l, e, with-r b, is b, eqb-sym b r, eqb-true l a e))
+    (λ (e : eqb l a ≡ false). rw (eqb-sym a l, e))
 
 within-more : (n x y : ℕ) (es : List Edge) → beyond n x y ≡ false → Within n es → Within n ((x, y) ∷ es)
 within-more n x y es e w u v a =

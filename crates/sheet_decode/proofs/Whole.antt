@@ -17,8 +17,6 @@ use Rattle.format.specs.declared.Refusal.the-variants.{Missing, Command, Range}
 use Rattle.sheet_decode.proofs.Judges.{graphOf}
 use Rattle.base_tables.specs.Tables.{Holds}
 use Rattle.sheet_decode.specs.Run.{Ran}
-use Rattle.base_tables.specs.Trees.{Parents}
-use Rattle.base_tables.proofs.Parents.{parents-held}
 use Rattle.sheet_decode.specs.Judge.{Judged}
 use Rattle.sheet_decode.specs.Read.{headerOf, Blank, Decodes, Reads}
 use Rattle.sheet_decode.specs.declared.run.Run.{Run}
@@ -124,9 +122,6 @@ module _ (n : ℕ) (bs parents low high : List ℕ) (w : Run) (ran : Ran n bs w 
       → (t : List Edge) × (d : List Edge) × (commands n [] [] bs ≡ whole (graphOf n t d)) × Holds n t d parents low high k
   unfolding Ran
   ended k e = rw e at ran
-
-  pub ended-parents : (k : ℕ) → n ≤ 128 → w ≡ Ended k → Parents n parents
-  ended-parents k few e = let r = ended k e in parents-held n (r .0) (r .1) parents low high k few (r .3)
 
   pub run-refused : (why : Refusal) → w ≡ RunRefused why → Decodes (commands n [] [] bs) (Refused why) parents low high
   unfolding Decodes Ran

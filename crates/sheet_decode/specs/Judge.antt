@@ -7,6 +7,7 @@ use lib.Dec.{eqb}
 use lib.ListN.{getD}
 use Rattle.base_finite.specs.Below.{any}
 use Rattle.base_nodeset.specs.Set.{mem}
+use Rattle.base_tables.specs.Rows.{inRow}
 use Rattle.base_nodeset.specs.declared.NodeSet.{NodeSet}
 use Rattle.graph.specs.Graph.{Edge, none}
 use Rattle.format.specs.Sheet.{refused, accepted, whole}
@@ -20,12 +21,12 @@ risesIn (suc k) parents v = not (eqb (getD parents v 0) none) && risesIn k paren
 unfoldable pub cyclicIn : ℕ → List ℕ → Bool
 cyclicIn n parents = any n (risesIn n parents)
 
--- some member of the row is no root, or there is one though l is no leaf
-unfoldable pub strayIn : NodeSet → ℕ → NodeSet → NodeSet → Bool
-strayIn row l inner roots = any 128 (λ r. mem row r && not (not (mem inner l) && mem roots r))
+-- some r among the row's is no root, or there is one though l is no leaf
+abbrev pub strays : (ℕ → Bool) → ℕ → NodeSet → NodeSet → Bool
+strays row l inner roots = any 128 (λ r. row r && not (not (mem inner l) && mem roots r))
 
 unfoldable pub astrayIn : ℕ → List ℕ → List ℕ → NodeSet → NodeSet → Bool
-astrayIn n low high inner roots = any n (λ l. strayIn (record { low = getD low l 0; high = getD high l 0 }) l inner roots)
+astrayIn n low high inner roots = any n (λ l. strays (inRow low high l) l inner roots)
 
 -- What a verdict says of `whole`.
 abbrev pub Judged : ℕ → List Edge → List Edge → Verdict → Type 0

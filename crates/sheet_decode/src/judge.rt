@@ -1,6 +1,7 @@
 // What is tested after the last command: 4, 5, 6.
 use base_nodeset::NodeSet;
 use base_tables::NONE;
+use base_tables::rows::set_at;
 use base_tables::trees::inner_nodes;
 use base_tables::trees::root_nodes;
 use format::Refusal;
@@ -8,10 +9,11 @@ ghost use mathlib.Core.Path.{_≡_};
 ghost use mathlib.Core.List.{List};
 ghost use Prim.Native.Nat.{ℕ, _≤_, _<_};
 ghost use lib.ListN.{length};
+ghost use Rattle.base_nodeset.specs.Set.{mem};
 ghost use Rattle.graph.specs.Graph.{Edge};
 ghost use Rattle.base_tables.specs.Tables.{Holds};
 ghost use Rattle.base_tables.specs.Trees.{Parents};
-ghost use Rattle.sheet_decode.specs.Judge.{risesIn, cyclicIn, strayIn, astrayIn, Judged};
+ghost use Rattle.sheet_decode.specs.Judge.{risesIn, cyclicIn, strays, astrayIn, Judged};
 
 pub enum Verdict {
     Accepted,
@@ -52,7 +54,7 @@ fn cyclic(parent: &[u8], n: usize) -> bool
 // Some dominance edge from l doesn't go from a leaf to a root.
 fn stray(row: NodeSet, l: usize, inner: NodeSet, roots: NodeSet) -> bool
     requires { ⌜ l < 128 ⌝ }
-    ensures { λ r. ⌜ r ≡ strayIn row l inner roots ⌝ }
+    ensures { λ r. ⌜ r ≡ strays (mem row) l inner roots ⌝ }
 {
     if inner.has(l) {
         return !row.is_empty();
@@ -66,11 +68,7 @@ fn astray(low: &[u64], high: &[u64], n: usize, inner: NodeSet, roots: NodeSet) -
     ensures { λ r. ⌜ r ≡ astrayIn n (now (low .entry)) (now (high .entry)) inner roots ⌝ }
 {
     for l in 0..n {
-        let row = NodeSet {
-            low: low[l],
-            high: high[l],
-        };
-        if stray(row, l, inner, roots) {
+        if stray(set_at(low, high, l), l, inner, roots) {
             return true;
         }
     }

@@ -1,16 +1,20 @@
 // One command taken: its edge goes into the tables, or its refusal comes out.
 use crate::command::Step;
 use crate::reader::command;
-use base_nodeset::NodeSet;
 use base_tables::NONE;
+use base_tables::rows::put_at;
+use base_tables::rows::set_at;
 use format::Refusal;
 ghost use mathlib.Core.Path.{_≡_};
 ghost use mathlib.Core.List.{List};
-ghost use Prim.Native.Nat.{_≤_, _<_};
+ghost use Prim.Native.Nat.{_≤_};
 ghost use lib.ListN.{length, drop};
 ghost use Rattle.graph.specs.Graph.{Edge};
 ghost use Rattle.base_tables.specs.Tables.{Holds};
 ghost use Rattle.sheet_decode.specs.Turn.{Turned, Advanced, treeAnswer, dominanceAnswer, ParentsAfter, HeadsAfter};
+
+// Dominance edges of a sheet.
+const MOST_EDGES: usize = 255;
 
 pub enum Turn {
     // The number of dominance edges so far.
@@ -56,19 +60,14 @@ fn dominance_edge(n: usize, l: u8, r: u8, edges: usize, low: &mut [u64], high: &
     if n <= head {
         return Turn::Refused(Refusal::Range);
     }
-    let heads = NodeSet {
-        low: low[leaf],
-        high: high[leaf],
-    };
+    let heads = set_at(low, high, leaf);
     if heads.has(head) {
         return Turn::Refused(Refusal::Repeated);
     }
-    if 255 <= edges {
+    if MOST_EDGES <= edges {
         return Turn::Refused(Refusal::TooMany);
     }
-    let more = heads.with(head);
-    low[leaf] = more.low;
-    high[leaf] = more.high;
+    put_at(low, high, leaf, heads.with(head));
     Turn::Next(edges + 1)
 }
 

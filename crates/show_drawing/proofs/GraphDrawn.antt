@@ -3,14 +3,14 @@ use Prim.Native.Nat.{ℕ, zero, suc, _+_, _≤_, _<_}
 use mathlib.Core.Path.{_≡_, refl, sym, subst⁻¹, _∙_}
 use mathlib.Core.List.{List, [], _∷_}
 use mathlib.Core.Bool.{Bool, true, false, cond, _&&_}
-use mathlib.Core.Logic.{_⊎_, ⊎-elim}
+use mathlib.Core.Logic.{⊎-elim}
 use native.Mathlib.Omega.{arith}
 use lib.Dec.{eqb}
 use lib.ListN.{length, getD, take, length-take}
 use lib.Seq.{getD-take, sets-eq}
 use borrow.Author.Tests.{eq-eqb, ne-eqb, eqb-true, lt-ltb}
 use Rattle.base_finite.proofs.Laws.{by-bool, and-both, any-ext, spread-ext, test-ext}
-use Rattle.base_finite.specs.Stores.{Written}
+use Rattle.base_finite.specs.Stores.{Written, entryIs}
 use Rattle.graph.specs.Graph.{Graph, left, root, leaf, leafOf, own, none}
 use Rattle.graph.specs.Placing.{at, hangs, SolvedForm}
 use Rattle.format.specs.Drawing.{leafText, fragmentText, drawing}
@@ -22,7 +22,7 @@ use Rattle.theory_forest.proofs.Fragments.{leafOf-parts}
 use Rattle.theory_forest.proofs.Forests.{placing-cases, placing-length}
 use Rattle.base_tables.specs.Trees.{Parents, TreeOf}
 use Rattle.base_tables.proofs.TreeLaws.{tree-of, tables-parents, parentless, inner-is, own-is}
-use Rattle.show_drawing.specs.Drawn.{run, homeIn, Homes, leafAt, hungAt, topAt, leafIn, fragmentIn, topsIn, Drawable, Drawn}
+use Rattle.show_drawing.specs.Drawn.{run, homeIn, Homes, topAt, leafIn, fragmentIn, topsIn, Drawable, Drawn}
 use Rattle.show_drawing.proofs.Runs.{leaf-run, fragment-run, drawing-run}
 use Rattle.show_drawing.proofs.Bound.{drawing-fits}
 
@@ -43,7 +43,7 @@ module _ (g : Graph) (parents : List ℕ) (shaped : Shaped g) (tree : TreeOf g (
   home-held v h = rw (inner-is shaped tree v h, own-is shaped tree v h)
 
   module _ (home : List ℕ) (homes : Homes (g .nodes) parents home) (placing : List ℕ) (solved : SolvedForm g (take (g .nodes) placing)) where
-    leaf-at : (r x : ℕ) → r < g .nodes → x < g .nodes → leafAt home r x ≡ leafOf g r x
+    leaf-at : (r x : ℕ) → r < g .nodes → x < g .nodes → entryIs home r x ≡ leafOf g r x
     unfolding leafOf leaf
     leaf-at r x hr hx =
         rw (homes .home-is x hx, home-held x hx, lt-ltb x (g .nodes) hx)
@@ -54,9 +54,9 @@ module _ (g : Graph) (parents : List ℕ) (shaped : Shaped g) (tree : TreeOf g (
     placed : (r : ℕ) → r < g .nodes → at (take (g .nodes) placing) r ≡ getD placing r 0
     placed r h = getD-take (g .nodes) placing r 0 h
 
-    hung-at : (l r : ℕ) → leaf g l ≡ true → r < g .nodes → hungAt placing l r ≡ hangs g (take (g .nodes) placing) l r
+    hung-at : (l r : ℕ) → leaf g l ≡ true → r < g .nodes → entryIs placing l r ≡ hangs g (take (g .nodes) placing) l r
     hung-at l r hl hr =
-        test-ext (hungAt placing l r) (hangs g (take (g .nodes) placing) l r)
+        test-ext (entryIs placing l r) (hangs g (take (g .nodes) placing) l r)
         (λ e.
         let i : at (take (g .nodes) placing) r ≡ l = placed r hr ∙ eqb-true (getD placing r 0) l e in
         ⊎-elim
@@ -74,8 +74,8 @@ module _ (g : Graph) (parents : List ℕ) (shaped : Shaped g) (tree : TreeOf g (
     leaf-held draw text same l h =
         let p : List ℕ = take (g .nodes) placing in
         rw (
-          run-ext (91 ∷ []) (59 ∷ []) draw text (hungAt placing l) (hangs g p l) (g .nodes) (λ r hr. hung-at l r h hr) (λ r e. same r (hangs-parts g p l r e .1)),
-          any-ext (g .nodes) (hungAt placing l) (hangs g p l) (λ r hr. hung-at l r h hr),
+          run-ext (91 ∷ []) (59 ∷ []) draw text (entryIs placing l) (hangs g p l) (g .nodes) (λ r hr. hung-at l r h hr) (λ r e. same r (hangs-parts g p l r e .1)),
+          any-ext (g .nodes) (entryIs placing l) (hangs g p l) (λ r hr. hung-at l r h hr),
         )
         (sym (leaf-run g p text l))
 
@@ -84,7 +84,7 @@ module _ (g : Graph) (parents : List ℕ) (shaped : Shaped g) (tree : TreeOf g (
     fragment-held zero r h = refl
     fragment-held (suc k) r h =
         let p : List ℕ = take (g .nodes) placing in
-        rw (run-ext (40 ∷ []) (44 ∷ []) (leafIn (λ s. fragmentIn k (g .nodes) home placing s) (g .nodes) placing) (leafText (λ s. fragmentText k g p s) g p) (leafAt home r) (leafOf g r) (g .nodes)
+        rw (run-ext (40 ∷ []) (44 ∷ []) (leafIn (λ s. fragmentIn k (g .nodes) home placing s) (g .nodes) placing) (leafText (λ s. fragmentText k g p s) g p) (entryIs home r) (leafOf g r) (g .nodes)
         (λ x hx. leaf-at r x (root-below g r h) hx)
         (λ x e. leaf-held (λ s. fragmentIn k (g .nodes) home placing s) (λ s. fragmentText k g p s) (λ s. fragment-held k s) x (leafOf-parts g r x e .0)))
         (sym (fragment-run g p shaped k r h))

@@ -12,7 +12,8 @@ use Rattle.graph.specs.Graph.{none}
 use Rattle.format.specs.Text.{decimal}
 use Rattle.base_text.proofs.Digits.{decimal-some, decimal-three}
 use Rattle.base_tables.specs.Trees.{innerIn, topIn}
-use Rattle.show_drawing.specs.Drawn.{run, homeIn, leafIn, fragmentIn, leavesIn, hungAt}
+use Rattle.show_drawing.specs.Drawn.{run, homeIn, leafIn, fragmentIn, leavesIn}
+use Rattle.base_finite.specs.Stores.{entryIs}
 
 -- runs
 
@@ -70,15 +71,15 @@ pub fragment-length : (k n : ℕ) (home p : List ℕ) (r : ℕ) → 0 < k → le
 fragment-length k n home p r h = rw (fragment-some k n home p r h, length-append, length-append)
 
 module _ (draw : ℕ → List ℕ) (n : ℕ) (p : List ℕ) (l : ℕ) where
-  pub leaf-length : length (leafIn draw n p l) ≡ length (decimal l) + length (run (91 ∷ []) (59 ∷ []) draw (hungAt p l) n) + cond (any n (hungAt p l)) 1 0
+  pub leaf-length : length (leafIn draw n p l) ≡ length (decimal l) + length (run (91 ∷ []) (59 ∷ []) draw (entryIs p l) n) + cond (any n (entryIs p l)) 1 0
   unfolding leafIn
-  leaf-length = rw (length-append, length-append) (by-bool (any n (hungAt p l)) (λ e. rw e) (λ e. rw e))
+  leaf-length = rw (length-append, length-append) (by-bool (any n (entryIs p l)) (λ e. rw e) (λ e. rw e))
 
-  pub leaf-plain : any n (hungAt p l) ≡ false → leafIn draw n p l ≡ decimal l ++ run (91 ∷ []) (59 ∷ []) draw (hungAt p l) n
+  pub leaf-plain : any n (entryIs p l) ≡ false → leafIn draw n p l ≡ decimal l ++ run (91 ∷ []) (59 ∷ []) draw (entryIs p l) n
   unfolding leafIn
-  leaf-plain e = rw e (append-nil (decimal l ++ run (91 ∷ []) (59 ∷ []) draw (hungAt p l) n))
+  leaf-plain e = rw e (append-nil (decimal l ++ run (91 ∷ []) (59 ∷ []) draw (entryIs p l) n))
 
-  pub leaf-hung : any n (hungAt p l) ≡ true → leafIn draw n p l ≡ decimal l ++ run (91 ∷ []) (59 ∷ []) draw (hungAt p l) n ++ 93 ∷ []
+  pub leaf-hung : any n (entryIs p l) ≡ true → leafIn draw n p l ≡ decimal l ++ run (91 ∷ []) (59 ∷ []) draw (entryIs p l) n ++ 93 ∷ []
   unfolding leafIn
   leaf-hung e = rw e
 

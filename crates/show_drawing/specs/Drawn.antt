@@ -1,5 +1,5 @@
 -- The drawing as it is read off tables: of each leaf the root of its fragment, of each root the leaf it hangs under.
-use Prim.Native.Nat.{ℕ, zero, suc, _+_, _≤_, _<_}
+use Prim.Native.Nat.{ℕ, zero, suc, _≤_, _<_}
 use mathlib.Core.Path.{_≡_}
 use mathlib.Core.List.{List, [], _∷_, _++_}
 use mathlib.Core.Bool.{Bool, cond, _&&_}
@@ -11,6 +11,7 @@ use Rattle.graph.specs.Placing.{SolvedForm}
 use Rattle.format.specs.Text.{decimal}
 use Rattle.base_tables.specs.Tables.{Tables}
 use Rattle.base_tables.specs.Trees.{topIn, innerIn}
+use Rattle.base_finite.specs.Stores.{entryIs}
 
 -- the texts of the numbers below k that have t, o before the first and b before each other
 unfoldable pub run : List ℕ → List ℕ → (ℕ → List ℕ) → (ℕ → Bool) → ℕ → List ℕ
@@ -25,24 +26,18 @@ pub record Homes (n : ℕ) (parents home : List ℕ) : Type 0 where
   pub long : length home ≡ 128
   pub home-is : (v : ℕ) → v < n → getD home v 0 ≡ homeIn n parents v
 
-abbrev pub leafAt : List ℕ → ℕ → ℕ → Bool
-leafAt home r x = eqb (getD home x 0) r
-
-abbrev pub hungAt : List ℕ → ℕ → ℕ → Bool
-hungAt p l r = eqb (getD p r 0) l
-
 abbrev pub topAt : List ℕ → List ℕ → ℕ → Bool
 topAt parents p r = eqb (getD parents r 0) spec.none && eqb (getD p r 0) spec.none
 
 -- a leaf, where draw gives the texts of fragments
 unfoldable pub leafIn : (ℕ → List ℕ) → ℕ → List ℕ → ℕ → List ℕ
-leafIn draw n p l = decimal l ++ run (91 ∷ []) (59 ∷ []) draw (hungAt p l) n ++ cond (any n (hungAt p l)) (93 ∷ []) []
+leafIn draw n p l = decimal l ++ run (91 ∷ []) (59 ∷ []) draw (entryIs p l) n ++ cond (any n (entryIs p l)) (93 ∷ []) []
 
 -- a fragment, with fragments hung k deep at most
 unfoldable pub fragmentIn : ℕ → ℕ → List ℕ → List ℕ → ℕ → List ℕ
 fragmentIn zero n home p r = []
 fragmentIn (suc k) n home p r =
-    decimal r ++ run (40 ∷ []) (44 ∷ []) (leafIn (λ s. fragmentIn k n home p s) n p) (leafAt home r) n ++ 41 ∷ []
+    decimal r ++ run (40 ∷ []) (44 ∷ []) (leafIn (λ s. fragmentIn k n home p s) n p) (entryIs home r) n ++ 41 ∷ []
 
 -- the leaf l of a fragment, with fragments hung k deep at most
 abbrev pub hungLeafIn : ℕ → ℕ → List ℕ → List ℕ → ℕ → List ℕ
@@ -50,10 +45,10 @@ hungLeafIn k n home p l = leafIn (λ s. fragmentIn k n home p s) n p l
 
 -- the leaves of a fragment below x, and the roots hung under a leaf below x
 abbrev pub leavesIn : ℕ → ℕ → List ℕ → List ℕ → ℕ → ℕ → List ℕ
-leavesIn k n home p r x = run (40 ∷ []) (44 ∷ []) (leafIn (λ s. fragmentIn k n home p s) n p) (leafAt home r) x
+leavesIn k n home p r x = run (40 ∷ []) (44 ∷ []) (leafIn (λ s. fragmentIn k n home p s) n p) (entryIs home r) x
 
 abbrev pub hungIn : ℕ → ℕ → List ℕ → List ℕ → ℕ → ℕ → List ℕ
-hungIn k n home p l x = run (91 ∷ []) (59 ∷ []) (λ s. fragmentIn k n home p s) (hungAt p l) x
+hungIn k n home p l x = run (91 ∷ []) (59 ∷ []) (λ s. fragmentIn k n home p s) (entryIs p l) x
 
 -- the top fragments with a root below x
 abbrev pub topsIn : ℕ → List ℕ → List ℕ → List ℕ → ℕ → List ℕ

@@ -2,7 +2,7 @@
 use Prim.Native.Nat.{ℕ, _+_, _*_, _≤_, _<_}
 use mathlib.Core.Path.{_≡_, refl, sym, ap, subst, _∙_}
 use mathlib.Core.List.{List}
-use mathlib.Core.Bool.{Bool, true, false}
+use mathlib.Core.Bool.{Bool, true, false, false≢true}
 use mathlib.Core.Logic.{_↔_}
 use native.Mathlib.Omega.{arith}
 use lib.Dec.{ltb}
@@ -87,9 +87,6 @@ half-fits g d n parents t =
 abbrev pub Tested : ℕ → List ℕ → Bool → List ℕ → List ℕ → Type 0
 Tested n parents r low high = (h : Graph) → Shaped h → TreeOf h n parents → Reduction h low high → (r ≡ true) ↔ Solvable h
 
-false-true : false ≡ true → ⊥
-false-true e = let z : _≡_ {A = ℕ} 0 1 = cc in omega arith
-
 module _ (g : Graph) (n : ℕ) (parents owners : List ℕ) (roots : NodeSet) (f : Fits g n parents owners roots) {v a b : ℕ} (c : Choice g v a b) where
   pub half-tested : (d : Decision) (r : Bool) (low high : List ℕ) → (d .0 ≡ a) × (d .1 ≡ b) → Tested n parents r low high → Reduction (half g d) low high → (r ≡ true) ↔ Solvable (half g d)
   half-tested d r low high is tests reduction =
@@ -97,7 +94,7 @@ module _ (g : Graph) (n : ℕ) (parents owners : List ℕ) (roots : NodeSet) (f 
 
 pub turned-by : (g : Graph) (a b : ℕ) (r : Bool) (low high : List ℕ) → ((r ≡ true) ↔ Solvable (half g (second a b))) → Reduction (half g (second a b)) low high → Turned g a b r low high
 turned-by g a b true low high is reduction = (is .0 refl, reduction)
-turned-by g a b false low high is reduction = λ f. false-true (is .1 f)
+turned-by g a b false low high is reduction = λ f. false≢true (is .1 f)
 
 -- bounds
 

@@ -8,10 +8,9 @@ use lib.ListN.{length, getD, set, take}
 use Rattle.base_nodeset.specs.declared.NodeSet.{NodeSet}
 use Rattle.graph.specs.Graph.{Graph}
 use Rattle.graph.specs.Order.{Choice, entry}
-use Rattle.graph.specs.Placing.{Solvable}
+use Rattle.graph.specs.Placing.{Solvable, Unsolvable}
 use Rattle.theory_forest.specs.Shape.{Shaped}
 use Rattle.theory_list.specs.Choosing.{Unforked}
-use Rattle.theory_list.specs.Unsolvable.{Unsolvable}
 use Rattle.theory_list.specs.Readings.{listed}
 use Rattle.theory_list.specs.Settled.{settled}
 use Rattle.solve_reduce.specs.Reduced.{LooplessForm}

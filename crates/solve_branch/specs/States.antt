@@ -3,9 +3,8 @@ use Prim.Native.Nat.{ℕ}
 use mathlib.Core.List.{List}
 use mathlib.Core.Bool.{Bool, true, false}
 use Rattle.graph.specs.Graph.{Graph, Descent}
-use Rattle.graph.specs.Placing.{Solvable}
+use Rattle.graph.specs.Placing.{Solvable, Unsolvable}
 use Rattle.theory_forest.specs.Shape.{Shaped}
-use Rattle.theory_list.specs.Unsolvable.{Unsolvable}
 use Rattle.theory_walk.specs.Walk.{first, second, half, graphAt, Entering, At}
 use Rattle.solve_branch.specs.Decisions.{decisions}
 use Rattle.solve_branch.specs.Fits.{Reduction}

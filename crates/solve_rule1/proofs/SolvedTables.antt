@@ -24,7 +24,8 @@ use Rattle.base_nodeset.specs.Set.{mem}
 use Rattle.base_nodeset.specs.declared.NodeSet.{NodeSet}
 use Rattle.base_tables.proofs.TreeLaws.{tree-of, tables-parents, parent-here, no-parent, has-parent}
 use Rattle.solve_rule1.specs.Solved.{GraphOf, Solved}
-use Rattle.solve_rule1.specs.Carried.{carried, Carrying}
+use Rattle.base_finite.specs.Stores.{entryIs}
+use Rattle.solve_rule1.specs.Carried.{Carrying}
 
 module _ (n : ℕ) (parents : List ℕ) (s : GraphOf n parents) where
   pub shaped : Shaped (s .graph)
@@ -66,22 +67,22 @@ module _ (n : ℕ) (parents p : List ℕ) (s : Solved n parents p) where
       rw (← (up-parent v h i)) (tables-parents (s .sheet .tables) .node-or-none v h i))
 
   -- under a node hangs what the bytes say
-  pub hangs-is : (l v : ℕ) → l < 128 → v < n → hangs (s .sheet .graph) p l v ≡ carried p l v
+  pub hangs-is : (l v : ℕ) → l < 128 → v < n → hangs (s .sheet .graph) p l v ≡ entryIs p l v
   hangs-is l v hl hv =
       let g : Graph = s .sheet .graph in
-      test-ext (hangs g p l v) (carried p l v)
+      test-ext (hangs g p l v) (entryIs p l v)
       (λ t. eq-eqb (at p v) l (hangs-parts g p l v t .2))
       (λ t.
       let e : at p v ≡ l = eqb-true (at p v) l t in
       rw e at (carried-hangs v hv (λ i. omega (arith, e, i, hl))))
 
-  pub problem-is : (l : ℕ) → l < 128 → problem (s .sheet .graph) p l ≡ leb 2 (count n (carried p l))
+  pub problem-is : (l : ℕ) → l < 128 → problem (s .sheet .graph) p l ≡ leb 2 (count n (entryIs p l))
   unfolding problem
   problem-is l h =
       let g : Graph = s .sheet .graph in
       let same : n ≡ g .nodes = s .sheet .tables .nodes in
-      rw (count-ext (g .nodes) (hangs g p l) (carried p l) (λ v b. hangs-is l v h (omega arith)))
-      (ap (λ (m : ℕ). leb 2 (count m (carried p l))) (sym same))
+      rw (count-ext (g .nodes) (hangs g p l) (entryIs p l) (λ v b. hangs-is l v h (omega arith)))
+      (ap (λ (m : ℕ). leb 2 (count m (entryIs p l))) (sym same))
 
   module _ (leaves : NodeSet) (c : Carrying 2 n p leaves) where
     pub several-is : (l : ℕ) → l < 128 → mem leaves l ≡ problem (s .sheet .graph) p l
@@ -90,8 +91,8 @@ module _ (n : ℕ) (parents p : List ℕ) (s : Solved n parents p) where
     -- what carries roots is a node
     several-within : (l : ℕ) → l < 128 → mem leaves l ≡ true → l < n
     several-within l h t =
-        let two : 2 ≤ count n (carried p l) = leb-true 2 (count n (carried p l)) (sym (c l h) ∙ t) in
-        let r = any-found n (carried p l) (some-counted n (carried p l) (omega arith)) in
+        let two : 2 ≤ count n (entryIs p l) = leb-true 2 (count n (entryIs p l)) (sym (c l h) ∙ t) in
+        let r = any-found n (entryIs p l) (some-counted n (entryIs p l) (omega arith)) in
         let e : at p (r .0) ≡ l = eqb-true (at p (r .0)) l (r .2) in
         omega (arith, e, hung-within (r .0) (r .1) (λ i. omega (arith, e, i, h)))
 

@@ -25,7 +25,8 @@ use Rattle.theory_rule1.proofs.Shifting.{Problem, staying-hangs, shifted-solved
 use Rattle.theory_rule1.proofs.Ending.{pairsBelow, pairs-bound, pairs-grow}
 use Rattle.base_finite.proofs.Bounds.{least-ext}
 use Rattle.solve_rule1.specs.Solved.{Solved}
-use Rattle.solve_rule1.specs.Carried.{carried, Moved}
+use Rattle.base_finite.specs.Stores.{entryIs}
+use Rattle.solve_rule1.specs.Carried.{Moved}
 use Rattle.solve_rule1.specs.Step.{Stepped}
 use Rattle.solve_rule1.proofs.SolvedTables.{few, hangs-is}
 
@@ -77,22 +78,22 @@ others-after n q z h =
     (λ (t : q z ≡ false). rw (t, and-false (ltb (least n q) z)))
 
 module _ (n : ℕ) (parents p : List ℕ) (s : Solved n parents p) (from : ℕ) (is-from : from ≡ problemLeaf (s .sheet .graph) p) (node : from < n) where
-  pub staying-is : least n (carried p from) ≡ staying (s .sheet .graph) p
+  pub staying-is : least n (entryIs p from) ≡ staying (s .sheet .graph) p
   unfolding staying
   staying-is =
       let g : Graph = s .sheet .graph in
       let fits : n ≤ 128 = few n parents (s .sheet) in
-      least-ext n (carried p from) (hangs g p from) (λ v h. sym (hangs-is n parents p s from v (omega arith) h))
+      least-ext n (entryIs p from) (hangs g p from) (λ v h. sym (hangs-is n parents p s from v (omega arith) h))
       ∙ ap (λ (m : ℕ). least m (hangs g p from)) (s .sheet .tables .nodes)
       ∙ ap (λ (l : ℕ). least (g .nodes) (hangs g p l)) is-from
 
-  pub staying-within : Problem (s .sheet .graph) p → least n (carried p from) < n
+  pub staying-within : Problem (s .sheet .graph) p → least n (entryIs p from) < n
   staying-within t =
       let g : Graph = s .sheet .graph in
       let b = root-below g (staying g p) (hangs-parts g p (problemLeaf g p) (staying g p) (staying-hangs g p t) .1) in
       omega (arith, staying-is, b, s .sheet .tables .nodes)
 
-  pub shifted-is : (stays to : ℕ) (q : List ℕ) → stays ≡ least n (carried p from) → to ≡ lowestLeaf (s .sheet .graph) stays → length q ≡ n
+  pub shifted-is : (stays to : ℕ) (q : List ℕ) → stays ≡ least n (entryIs p from) → to ≡ lowestLeaf (s .sheet .graph) stays → length q ≡ n
       → Moved n from stays to p q → q ≡ shifted (s .sheet .graph) p
   unfolding shifted
   shifted-is stays to q is-least is-to long m =
@@ -102,8 +103,8 @@ module _ (n : ℕ) (parents p : List ℕ) (s : Solved n parents p) (from : ℕ) 
       let f : ℕ → ℕ = λ z. cond (hangs g p (problemLeaf g p) z && not (eqb z (staying g p))) (lowestLeaf g (staying g p)) (at p z) in
       ext-getD 0 q (shifted g p) (long ∙ same ∙ sym (length-entries (g .nodes) f)) (λ z h.
       let b : z < n = omega (arith, h, long) in
-      let there : cond (ltb stays z && carried p from z) to (at p z) ≡ cond (hangs g p from z && not (eqb z stays)) to (at p z) =
-      rw (is-least, others-after n (carried p from) z b, ← (hangs-is n parents p s from z (omega arith) b)) in
+      let there : cond (ltb stays z && entryIs p from z) to (at p z) ≡ cond (hangs g p from z && not (eqb z stays)) to (at p z) =
+      rw (is-least, others-after n (entryIs p from) z b, ← (hangs-is n parents p s from z (omega arith) b)) in
       let is-staying : stays ≡ staying g p = is-least ∙ staying-is in
       let named : cond (hangs g p from z && not (eqb z stays)) to (at p z) ≡ f z = cc in
       m z b ∙ there ∙ named ∙ sym (entry-at (g .nodes) f 0 z (omega arith)))

@@ -2,20 +2,17 @@
 use Prim.Native.Nat.{ℕ, _≤_, _<_}
 use mathlib.Core.Path.{_≡_}
 use mathlib.Core.List.{List}
-use mathlib.Core.Bool.{Bool, true, cond, _&&_}
+use mathlib.Core.Bool.{true, cond, _&&_}
 use lib.Dec.{eqb, leb, ltb}
 use lib.ListN.{getD}
 use Rattle.base_finite.specs.Below.{count}
 use Rattle.base_nodeset.specs.Set.{mem}
 use Rattle.base_nodeset.specs.declared.NodeSet.{NodeSet}
-
--- v hangs under l
-abbrev pub carried : List ℕ → ℕ → ℕ → Bool
-carried p l v = eqb (getD p v 0) l
+use Rattle.base_finite.specs.Stores.{entryIs}
 
 -- the leaves that carry k roots or more of the first n
 abbrev pub Carrying : ℕ → ℕ → List ℕ → NodeSet → Type 0
-Carrying k n p r = (l : ℕ) → l < 128 → mem r l ≡ leb k (count n (carried p l))
+Carrying k n p r = (l : ℕ) → l < 128 → mem r l ≡ leb k (count n (entryIs p l))
 
 -- the leaf l, where it is among the leaves and less deep than the best so far, and otherwise that one
 unfoldable pub better : NodeSet → (ℕ → ℕ) → ℕ → ℕ → ℕ

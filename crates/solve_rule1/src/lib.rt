@@ -14,7 +14,8 @@ ghost use Rattle.graph.specs.Graph.{leafOf};
 ghost use Rattle.graph.specs.Rule1.{up, depth, lowestLeaf, Rule1};
 ghost use Rattle.base_tables.specs.Trees.{InnerSet};
 ghost use Rattle.solve_rule1.specs.Solved.{GraphOf, Solved};
-ghost use Rattle.solve_rule1.specs.Carried.{carried, Carrying, better, Best, Moved};
+ghost use Rattle.base_finite.specs.Stores.{entryIs};
+ghost use Rattle.solve_rule1.specs.Carried.{Carrying, better, Best, Moved};
 ghost use Rattle.solve_rule1.specs.Step.{Stepped, Configured};
 
 // The leaves that carry several roots.
@@ -97,7 +98,7 @@ fn best_leaf(parent: &[u8], p: &[u8], n: usize, leaves: NodeSet) -> usize
 // The lowest root that the leaf carries.
 fn lowest_root(p: &[u8], n: usize, leaf: u8) -> usize
     requires { ⌜ length (now p) ≡ n ⌝ }
-    ensures { λ r. ⌜ r ≡ least n (carried (now (p .entry)) leaf) ⌝ }
+    ensures { λ r. ⌜ r ≡ least n (entryIs (now (p .entry)) leaf) ⌝ }
 {
     for v in 0..n {
         if p[v] == leaf {

@@ -15,12 +15,6 @@ connected-sym same = same
 connected-sym (forth c e) = connected-trans (back same e) (connected-sym c)
 connected-sym (back c e) = connected-trans (forth same e) (connected-sym c)
 
--- every edge of E is one of F
-pub connected-map : {E F : ℕ → ℕ → Type 0} → ((u v : ℕ) → E u v → F u v) → {u v : ℕ} → Connected E u v → Connected F u v
-connected-map f same = same
-connected-map f (forth {v = v} {w = w} c e) = forth (connected-map f c) (f v w e)
-connected-map f (back {v = v} {w = w} c e) = back (connected-map f c) (f w v e)
-
 pub path-connected : {E F : ℕ → ℕ → Type 0} → ((u v : ℕ) → E u v → F u v) → {u v : ℕ} → Path E u v → Connected F u v
 path-connected f (one {u = u} {v = v} e) = forth same (f u v e)
 path-connected f (more {v = v} {w = w} p e) = forth (path-connected f p) (f v w e)

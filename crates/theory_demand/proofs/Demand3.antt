@@ -8,7 +8,7 @@ use lib.Seq.{take-length}
 use Rattle.graph.specs.Graph.{Graph}
 use Rattle.format.specs.Sheet.{Outcome, outcome, accepted}
 use Rattle.graph.specs.Placing.{Below, Contains}
-use Rattle.graph.specs.Order.{Listing}
+use Rattle.graph.specs.Order.{Listing, ExactlyOne}
 use Rattle.theory_format.proofs.Spelling.{accepted-well-formed}
 use Rattle.theory_forest.specs.Shape.{Shaped}
 use Rattle.theory_forest.proofs.Shape.{well-formed-shaped}
@@ -16,7 +16,7 @@ use Rattle.theory_list.specs.Readings.{listed}
 use Rattle.theory_list.proofs.Readings.{listing-exists, listing-unique, one-below}
 use Rattle.theory_refutes.proofs.Excludes.{no-both}
 use Rattle.counter.specs.Calls.{reach, CountOf, ReadingOf, ConfigurationOf, DrawingOf}
-use Rattle.theory_demand.specs.Demand.{Call, Chain, handedOut, lentEnough, least, ExactlyOne, Demand3}
+use Rattle.theory_demand.specs.Demand.{Call, Chain, handedOut, lentEnough, least, Demand3}
 use Rattle.theory_demand.proofs.Refusing.{count-refuses, reading-refuses, configuration-refuses, drawing-refuses, reading-cycle, configuration-cycle, configuration-given}
 use Rattle.theory_demand.proofs.Handing.{chain-hands}
 

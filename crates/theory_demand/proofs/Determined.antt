@@ -13,7 +13,8 @@ use Rattle.format.specs.Drawing.{drawing}
 use Rattle.theory_forest.specs.Shape.{Shaped}
 use Rattle.theory_list.proofs.Readings.{listing-unique}
 use Rattle.theory_rule1.proofs.Ending.{rule1-function}
-use Rattle.counter.specs.Calls.{Unsolvable, reach, placedNumber, Counts, ReadingCall, ConfigurationCall, DrawingCall}
+use Rattle.graph.specs.Placing.{Unsolvable}
+use Rattle.counter.specs.Calls.{reach, placedNumber, Counts, ReadingCall, ConfigurationCall, DrawingCall}
 use Rattle.counter.specs.declared.Counted.{Counted}
 use Rattle.counter.specs.declared.Counted.the-variants.{Readings}
 use Rattle.counter.specs.declared.Placed.{Placed}

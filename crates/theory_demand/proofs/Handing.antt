@@ -16,7 +16,8 @@ use Rattle.format.specs.Sheet.{accepted}
 use Rattle.graph.specs.Order.{Listing, entry}
 use Rattle.theory_forest.specs.Shape.{Shaped}
 use Rattle.theory_list.proofs.Readings.{listing-unique, listing-exists, unsolvable-empty}
-use Rattle.counter.specs.Calls.{Unsolvable, reach, ReadingCall}
+use Rattle.graph.specs.Placing.{Unsolvable}
+use Rattle.counter.specs.Calls.{reach, ReadingCall}
 use Rattle.counter.specs.declared.Placed.{Placed}
 use Rattle.theory_demand.specs.Demand.{Call, Chain, unlessRefused, handedOut, lentEnough}
 use Rattle.theory_forest.proofs.Forests.{placing-length}
@@ -32,9 +33,6 @@ one-enough n old = cond (leb (2 * n) (length old)) 1 0
 module _ (g : Graph) (s : Shaped g) (ps : List (List ℕ)) (l : Listing g ps) where
   unsolvable-none : Unsolvable g → length ps ≡ 0
   unsolvable-none u = ap length (listing-unique g s l (listing-exists g s) ∙ unsolvable-empty g s .0 u)
-
-  same-list : (qs : List (List ℕ)) → Listing g qs → qs ≡ ps
-  same-list qs k = listing-unique g s k l
 
   -- beyond the last, nothing more, however many calls
   none-left : (a b m : ℕ) → reach ps ≤ m → next ps a m ≡ next ps b m
@@ -56,9 +54,9 @@ module _ (g : Graph) (s : Shaped g) (ps : List (List ℕ)) (l : Listing g ps) wh
   unfolding unlessRefused
   one-call {m} {old = old} (ReadingCall.small f) h k = (h, rw (lt-leb (2 * g .nodes) (length old), zero-add))
   one-call {m} {old = old} (ReadingCall.none f u c) h k = (h, none-left k (one-enough (g .nodes) old + k) m (omega (arith, unsolvable-none u)))
-  one-call {m} {old = old} (ReadingCall.beyond qs f x some b) h k = (h, none-left k (one-enough (g .nodes) old + k) m (subst (λ (z : List (List ℕ)). reach z ≤ m) (same-list qs x) b))
+  one-call {m} {old = old} (ReadingCall.beyond qs f x some b) h k = (h, none-left k (one-enough (g .nodes) old + k) m (subst (λ (z : List (List ℕ)). reach z ≤ m) (listing-unique g s x l) b))
   one-call {m} {old = old} (ReadingCall.read qs f x b) h k =
-      let e : qs ≡ ps = same-list qs x in
+      let e : qs ≡ ps = listing-unique g s x l in
       let there : m < reach ps = subst (λ (z : List (List ℕ)). m < reach z) e b in
       let whole : length (entry qs m) ≡ g .nodes = placing-length g (entry qs m) (x .only-readings m (omega arith) .solved .is-placing) in (
         omega arith,

@@ -16,7 +16,7 @@ use Rattle.base_finite.specs.Below.{all}
 use Rattle.base_finite.proofs.Laws.{by-bool, and-both}
 use Rattle.graph.specs.Graph.{Graph}
 use Rattle.format.specs.Sheet.{Outcome, accepted, outcome}
-use Rattle.graph.specs.Placing.{Solvable}
+use Rattle.graph.specs.Placing.{Unsolvable}
 use Rattle.graph.specs.Order.{entry}
 use Rattle.graph.specs.Cycle.{pairs, node, kind, next, joined, sameEdge, cycle}
 use Rattle.theory_edges.proofs.Pigeonhole.{pigeonhole}
@@ -25,11 +25,12 @@ use Rattle.theory_forest.specs.Shape.{Shaped}
 use Rattle.theory_forest.proofs.Shape.{well-formed-shaped}
 use Rattle.theory_forest.proofs.Table.{graph-edge-within}
 use Rattle.theory_list.specs.Readings.{listed}
-use Rattle.theory_list.proofs.Readings.{listing-exists, one-below, solvable-decided}
+use Rattle.theory_list.proofs.Readings.{listing-exists, solvable-decided}
 use Rattle.theory_rule1.proofs.Ending.{rule1-ends}
 use Rattle.theory_refutes.proofs.Cycles.{Joined, CycleFacts, cycle-facts, hypernormal-cycle}
 use Rattle.theory_cycle.proofs.Theorem62.{unsolvable-cycle}
-use Rattle.counter.specs.Calls.{Unsolvable, reach, CycleWritten, Counts, ReadingCall, ConfigurationCall, DrawingCall}
+use Rattle.counter.proofs.Answering.{some-listed}
+use Rattle.counter.specs.Calls.{reach, CycleWritten, Counts, ReadingCall, ConfigurationCall, DrawingCall}
 use Rattle.counter.specs.declared.Counted.{Counted}
 use Rattle.counter.specs.declared.Placed.{Placed}
 use Rattle.counter.specs.declared.Drawn.{Drawn}
@@ -90,13 +91,10 @@ module _ (g : Graph) (s : Shaped g) where
         },
       )
 
-  some-reading : Solvable g → 0 < length (listed g)
-  some-reading o = let at = one-below g s (o .0) (o .1) in omega (arith, at .1)
-
   pub count-possible : (r : Counted) × Counts g r
   count-possible =
       dite (solvable-decided g s)
-      (λ o. (_, Counts.counted (listed g) (listing-exists g s) (some-reading o)))
+      (λ o. (_, Counts.counted (listed g) (listing-exists g s) (some-listed g s o)))
       (λ u. (_, Counts.none u))
 
   pub reading-possible : (m : ℕ) (old : List ℕ) → (r : Placed) × (m′ : ℕ) × (new : List ℕ) × ReadingCall g m old r m′ new
@@ -106,7 +104,7 @@ module _ (g : Graph) (s : Shaped g) where
       dite (solvable-decided g s)
       (λ o.
       dite (decLe (reach (listed g)) m)
-      (λ b. (_, _, _, ReadingCall.beyond (listed g) f (listing-exists g s) (some-reading o) b))
+      (λ b. (_, _, _, ReadingCall.beyond (listed g) f (listing-exists g s) (some-listed g s o) b))
       (λ b. (_, _, _, ReadingCall.read (listed g) f (listing-exists g s) (omega arith))))
       (λ u. let w = cycle-writes old f u in (_, _, _, ReadingCall.none f u (w .2))))
       (λ f. (_, _, _, ReadingCall.small (omega arith)))
@@ -118,7 +116,7 @@ module _ (g : Graph) (s : Shaped g) where
       dite (solvable-decided g s)
       (λ o.
       let l = listing-exists g s in
-      let q = rule1-ends g (entry (listed g) 0) s (l .only-readings 0 (some-reading o) .solved) in
+      let q = rule1-ends g (entry (listed g) 0) s (l .only-readings 0 (some-listed g s o) .solved) in
       (_, _, ConfigurationCall.configured (q .0) f o (record { readings = listed g; listing = l; reached = q .1 })))
       (λ u. let w = cycle-writes old f u in (_, _, ConfigurationCall.none f u (w .2))))
       (λ f. (_, _, ConfigurationCall.small (omega arith)))
@@ -131,11 +129,11 @@ module _ (g : Graph) (s : Shaped g) where
       (λ o.
       let l = listing-exists g s in
       dite (decLe k 0)
-      (λ z. (_, _, DrawingCall.beyond (listed g) f l (some-reading o) (inl (omega arith))))
+      (λ z. (_, _, DrawingCall.beyond (listed g) f l (some-listed g s o) (inl (omega arith))))
       (λ z.
       dite (decLe k (reach (listed g)))
       (λ b. (_, _, DrawingCall.drawn (listed g) f l (omega arith) b))
-      (λ b. (_, _, DrawingCall.beyond (listed g) f l (some-reading o) (inr (omega arith))))))
+      (λ b. (_, _, DrawingCall.beyond (listed g) f l (some-listed g s o) (inr (omega arith))))))
       (λ u. (_, _, DrawingCall.none f u)))
       (λ f. (_, _, DrawingCall.small (omega arith)))
 

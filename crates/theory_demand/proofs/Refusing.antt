@@ -8,20 +8,17 @@ use native.Mathlib.Omega.{arith}
 use lib.ListN.{length, drop}
 use lib.Seq.{take-at}
 use Rattle.graph.specs.Graph.{Graph}
-use Rattle.graph.specs.Placing.{Configuration, Solvable}
+use Rattle.graph.specs.Placing.{Configuration, Solvable, Unsolvable}
 use Rattle.graph.specs.Order.{Listing, entry}
 use Rattle.graph.specs.Rule1.{HandedOut}
 use Rattle.theory_forest.specs.Shape.{Shaped}
 use Rattle.theory_forest.proofs.Forests.{hanging-solved, placing-length}
 use Rattle.theory_list.proofs.Readings.{solvable-reading}
 use Rattle.theory_rule1.proofs.Ending.{rule1-configuration}
-use Rattle.counter.specs.Calls.{Unsolvable, countNumber, placedNumber, drawnNumber, Counts, ReadingCall, ConfigurationCall, DrawingCall}
-use Rattle.format.specs.declared.Refusal.the-variants.{NoReading as No-reading}
+use Rattle.counter.specs.Calls.{countNumber, placedNumber, drawnNumber, Counts, ReadingCall, ConfigurationCall, DrawingCall}
 use Rattle.counter.specs.declared.Counted.{Counted}
-use Rattle.counter.specs.declared.Counted.the-variants.{Refused as CountRefused}
 use Rattle.counter.specs.declared.Placed.{Placed}
 use Rattle.counter.specs.declared.Drawn.{Drawn}
-use Rattle.counter.specs.declared.Drawn.the-variants.{Refused as DrawnRefused}
 use Rattle.theory_demand.specs.Demand.{NoHanging, asNoReading, Carries, Gives}
 
 pub no-hanging : {g : Graph} → Unsolvable g → NoHanging g
@@ -62,17 +59,6 @@ drawing-refuses (DrawingCall.small f) h = absurd (omega arith)
 drawing-refuses (DrawingCall.none f u) h = refusing refl u
 drawing-refuses (DrawingCall.beyond ps f l some b) h = reading-there (λ e. omega arith) l some
 drawing-refuses (DrawingCall.drawn ps f l b c) h = reading-there (λ e. omega arith) l (omega arith)
-
--- the number 9 tells the whole answer of count and drawing
-pub count-told : {g : Graph} {r : Counted} → Counts g r → countNumber r ≡ asNoReading → r ≡ CountRefused No-reading
-count-told (Counts.none u) e = refl
-count-told (Counts.counted ps l h) e = absurd (omega arith)
-
-pub drawing-told : {g : Graph} {k : ℕ} {old new : List ℕ} {r : Drawn} → DrawingCall g k old r new → drawnNumber r ≡ asNoReading → (r ≡ DrawnRefused No-reading) × (new ≡ old)
-drawing-told (DrawingCall.small f) e = absurd (omega arith)
-drawing-told (DrawingCall.none f u) e = (refl, refl)
-drawing-told (DrawingCall.beyond ps f l some b) e = absurd (omega arith)
-drawing-told (DrawingCall.drawn ps f l b c) e = absurd (omega arith)
 
 pub reading-cycle : {g : Graph} {m m′ : ℕ} {old new : List ℕ} {r : Placed} → ReadingCall g m old r m′ new → placedNumber r ≡ asNoReading → Carries g r old new
 reading-cycle (ReadingCall.small f) e = absurd (omega arith)

@@ -1,7 +1,7 @@
 -- The third demand of the mission, as one statement about a well-formed sheet: bytes `bs` whose outcome is that they are
 -- accepted as the graph g. Its calls are what crates/counter promises of them (specs/Calls.antt). Each part stands under
 -- the words of the demand that it says; "01" marks words of document 01.
-use Prim.Native.Nat.{ℕ, _+_, _*_, _≤_, _<_, min}
+use Prim.Native.Nat.{ℕ, _+_, _*_, _≤_, min}
 use mathlib.Core.Path.{_≡_}
 use mathlib.Core.List.{List, [], _∷_}
 use mathlib.Core.Bool.{true, cond}
@@ -11,7 +11,7 @@ use lib.ListN.{length, take}
 use Rattle.graph.specs.Graph.{Graph}
 use Rattle.format.specs.Sheet.{Outcome, outcome}
 use Rattle.graph.specs.Placing.{Below, Contains, SolvedForm, Configuration, Hanging}
-use Rattle.graph.specs.Order.{Listing, entry}
+use Rattle.graph.specs.Order.{Listing, ExactlyOne}
 use Rattle.graph.specs.Cycle.{hypernormalCycle}
 use Rattle.counter.specs.Calls.{countNumber, placedNumber, drawnNumber, CountOf, ReadingOf, ConfigurationOf, DrawingOf}
 use Rattle.counter.specs.declared.Counted.{Counted}
@@ -75,10 +75,6 @@ lentEnough n (c ∷ cs) = cond (leb (2 * n) (length (c .lent))) 1 0 + lentEnough
 -- "k the least of: the calls lent enough, the sheet's readings, 65,535"
 abbrev pub least : ℕ → List Call → List (List ℕ) → ℕ
 least n cs ps = min (min (lentEnough n cs) (length ps)) 65535
-
--- what is said of a list's entries holds of exactly one
-abbrev pub ExactlyOne : (List ℕ → Type 0) → List (List ℕ) → Type 0
-ExactlyOne P qs = (i : ℕ) × (i < length qs) × P (entry qs i) × ((j : ℕ) → j < length qs → P (entry qs j) → j ≡ i)
 
 pub record Demand3 (bs : List ℕ) (g : Graph) : Type 0 where
   -- "In count, reading, configuration and drawing a well-formed sheet (large enough buffer lent) is refused as having no

@@ -18,18 +18,13 @@ use Rattle.graph.specs.Order.{adding}
 use Rattle.graph.specs.Placing.{at, placing, hangs, PlacingEdge, Below, Forest, Contains, SolvedForm, Hanging}
 use Rattle.theory_edges.proofs.Edges.{one-parent}
 use Rattle.theory_forest.specs.Shape.{Shaped}
-use Rattle.theory_forest.proofs.Closure.{path-trans, path-map, path-lift, path-first, path-last, graph-edge-added, descent-added, added-edge}
+use Rattle.theory_forest.proofs.Closure.{path-trans, path-map, path-lift, path-last, graph-edge-added, descent-added, added-edge}
 use Rattle.theory_forest.proofs.Table.{hangs-parts, hangs-intro}
-use Rattle.theory_forest.proofs.Fragments.{leaf-childless, root-parentless, own-above, own-edge, own-of-root, leaf-below-own}
+use Rattle.theory_forest.proofs.Fragments.{leaf-childless, root-parentless, own-edge, own-of-root, leaf-below-own}
 
 -- x is y, above y or below y
 abbrev pub Comparable : (ℕ → ℕ → Type 0) → ℕ → ℕ → Type 0
 Comparable E x y = (x ≡ y) ⊎ (Path E x y ⊎ Path E y x)
-
-pub comparable-sym : {E : ℕ → ℕ → Type 0} {x y : ℕ} → Comparable E x y → Comparable E y x
-comparable-sym (inl i) = inl (sym i)
-comparable-sym (inr (inl p)) = inr (inr p)
-comparable-sym (inr (inr p)) = inr (inl p)
 
 -- x is y, or above y
 abbrev pub AtOrAbove : (ℕ → ℕ → Type 0) → ℕ → ℕ → Type 0
@@ -71,10 +66,6 @@ module _ {E : ℕ → ℕ → Type 0} (f : Forest E) where
       (⊎-elim (λ (r : Path E z l). absurd (n (inr r))) (λ (r : Path E l z). r))
       (chain q p)
 
-  -- nothing lies below two incomparable nodes
-  pub below-comparable-only : {x y v : ℕ} → (Comparable E x y → ⊥) → Path E x v → Path E y v → ⊥
-  below-comparable-only n p q = n (chain p q)
-
 -- a placing's edges
 
 pub tree-below : (g : Graph) (p : List ℕ) {u v : ℕ} → Path (TreeEdge g) u v → Below g p u v
@@ -82,10 +73,6 @@ tree-below g p b = path-map (λ u v e. inl e) b
 
 pub hung-below : (g : Graph) (p : List ℕ) {l r : ℕ} → hangs g p l r ≡ true → Below g p l r
 hung-below g p h = one (inr h)
-
-pub own-below : (g : Graph) (p : List ℕ) (v : ℕ) → AtOrAbove (PlacingEdge g p) (own g v) v
-own-below g p v =
-    ⊎-elim (λ (i : own g v ≡ v). inl i) (λ (b : Path (TreeEdge g) (own g v) v). inr (tree-below g p b)) (own-above g v)
 
 -- at most one edge goes to a node, whatever the placing
 pub placing-one-incoming : (g : Graph) (p : List ℕ) → Shaped g → (u v w : ℕ) → PlacingEdge g p u w → PlacingEdge g p v w → u ≡ v
@@ -99,17 +86,6 @@ pub acyclic-forest : (g : Graph) (p : List ℕ) → Shaped g → ((u : ℕ) → 
 acyclic-forest g p s n = record { one-incoming = placing-one-incoming g p s; no-loop = n }
 
 -- leaves
-
--- the first edge below a leaf is a hanging
-pub leaf-first : (g : Graph) (p : List ℕ) (a b : ℕ) → leaf g a ≡ true → Below g p a b → (r : ℕ) × (hangs g p a r ≡ true) × AtOrAbove (PlacingEdge g p) r b
-leaf-first g p a b h d =
-    ⊎-elim
-    (λ (e : PlacingEdge g p a b). (b, first b e, inl refl))
-    (λ (x : (v : ℕ) × PlacingEdge g p a v × Below g p v b). (x .0, first (x .0) (x .1), inr (x .2)))
-    (path-first d)
-  where
-    first : (r : ℕ) → PlacingEdge g p a r → hangs g p a r ≡ true
-    first r = ⊎-elim (λ (t : TreeEdge g a r). absurd (leaf-childless g a r h t)) (λ (k : hangs g p a r ≡ true). k)
 
 -- a hung root is its own
 hung-own : (g : Graph) (p : List ℕ) (l r : ℕ) → hangs g p l r ≡ true → own g r ≡ r
@@ -205,14 +181,6 @@ hanging-solved g p = (
 )
 
 -- an edge added: the placings and what lies below what in them are those of the graph without it
-
-pub placing-adding : (g : Graph) (a r : ℕ) (p : List ℕ) → placing (adding g a r) p ≡ placing g p
-unfolding adding placing root leaf
-placing-adding g a r p = refl
-
-pub hangs-adding : (g : Graph) (a r : ℕ) (p : List ℕ) (u v : ℕ) → hangs (adding g a r) p u v ≡ hangs g p u v
-unfolding adding hangs root leaf
-hangs-adding g a r p u v = refl
 
 pub below-adding : (g : Graph) (a r : ℕ) (p : List ℕ) (u v : ℕ) → Below (adding g a r) p u v ↔ Below g p u v
 unfolding adding hangs root leaf

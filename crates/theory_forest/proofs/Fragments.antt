@@ -12,7 +12,7 @@ use lib.Dec.{eqb, ltb}
 use borrow.Author.Tests.{lt-ltb, eqb-true, eq-eqb, not-true}
 use Rattle.base_finite.proofs.Laws.{by-bool, and-both, and-intro, any-false, not-holding}
 use Rattle.graph.specs.Graph.{Edge, Graph, entered, left, parent, top, root, leaf, own, leafOf, TreeEdge, Path, one, more, rises, cyclic}
-use Rattle.graph.specs.Order.{adding, removed}
+use Rattle.graph.specs.Order.{adding}
 use Rattle.theory_edges.proofs.Edges.{entered-of-among, left-of-among, left-found, parent-among, parent-only}
 use Rattle.theory_edges.proofs.Cyclic.{cycle-of-cyclic}
 use Rattle.theory_edges.proofs.Ends.{leaf-below, root-below}
@@ -191,27 +191,3 @@ root-adding g l r v = refl
 pub leaf-adding : (g : Graph) (l r v : ℕ) → leaf (adding g l r) v ≡ leaf g v
 unfolding adding leaf
 leaf-adding g l r v = refl
-
-pub own-adding : (g : Graph) (l r v : ℕ) → own (adding g l r) v ≡ own g v
-unfolding adding own
-own-adding g l r v = refl
-
-pub leafOf-adding : (g : Graph) (l r s x : ℕ) → leafOf (adding g l r) s x ≡ leafOf g s x
-unfolding adding leafOf leaf own
-leafOf-adding g l r s x = refl
-
-pub root-removed : (g : Graph) (l r v : ℕ) → root (removed g l r) v ≡ root g v
-unfolding removed root
-root-removed g l r v = refl
-
-pub leaf-removed : (g : Graph) (l r v : ℕ) → leaf (removed g l r) v ≡ leaf g v
-unfolding removed leaf
-leaf-removed g l r v = refl
-
-pub own-removed : (g : Graph) (l r v : ℕ) → own (removed g l r) v ≡ own g v
-unfolding removed own
-own-removed g l r v = refl
-
-pub leafOf-removed : (g : Graph) (l r s x : ℕ) → leafOf (removed g l r) s x ≡ leafOf g s x
-unfolding removed leafOf leaf own
-leafOf-removed g l r s x = refl

@@ -4,7 +4,7 @@ use Prim.Native.Nat.{ℕ}
 use mathlib.Core.Path.{_≡_}
 use mathlib.Core.List.{List, [], _∷_}
 use mathlib.Core.Bool.{true, _&&_}
-use mathlib.Core.Logic.{_⊎_, ⊎-elim}
+use mathlib.Core.Logic.{⊎-elim}
 use lib.Dec.{eqb}
 use Rattle.base_finite.proofs.Laws.{by-bool}
 use Rattle.graph.specs.Graph.{Edge, Graph, among, root, leaf, DominanceEdge, WellFormed}

@@ -216,15 +216,6 @@ under-iff g s p u v = appended-iff (g .nodes) (g .tree) (hangings g p) (among-ha
 
 -- both are decided
 
-decided : {A : Type 0} (b : Bool) → (b ≡ true) ↔ A → Dec A
-decided b f = by-bool b (λ t. yes (f .0 t)) (λ t. no (λ a. true≢false (sym (f .1 a) ∙ t)))
-
-pub descent-decided : (g : Graph) → Shaped g → (u v : ℕ) → Dec (Descent g u v)
-descent-decided g s u v = decided (descends g u v) (descends-iff g s u v)
-
-pub below-decided : (g : Graph) → Shaped g → (p : List ℕ) (u v : ℕ) → Dec (Below g p u v)
-below-decided g s p u v = decided (under g p u v) (under-iff g s p u v)
-
 -- no cycle
 
 pub acyclic-iff : (g : Graph) → Shaped g → (acyclic g ≡ true) ↔ ((u : ℕ) → Descent g u u → ⊥)
@@ -238,29 +229,3 @@ acyclic-iff g s = (
       let free : descends g u u ≡ false = not-holding (descends g u u) (λ t. f u (descends-iff g s u u .0 t)) in
       rw free),
 )
-
--- Closed tests, on the document's chain of two: 11 is reached from 3 by way of 5 and 10, and 3 is not from 0.
-chain-of-two : Graph
-chain-of-two =
-    record {
-      nodes = 12;
-      tree = (0, 1) ∷ (0, 2) ∷ (3, 4) ∷ (3, 5) ∷ (6, 7) ∷ (8, 9) ∷ (10, 11) ∷ [];
-      dominance = (1, 6) ∷ (2, 8) ∷ (4, 8) ∷ (5, 10) ∷ [];
-    }
-
-reached : descends chain-of-two 3 11 ≡ true
-unfolding chain-of-two descends
-reached = refl
-
-not-reached : descends chain-of-two 0 3 ≡ false
-unfolding chain-of-two descends
-not-reached = refl
-
-no-cycle : acyclic chain-of-two ≡ true
-unfolding chain-of-two acyclic
-no-cycle = refl
-
--- in its first reading 3 hangs under 2, so 11 lies below 0
-below-in-first : under chain-of-two (255 ∷ 255 ∷ 255 ∷ 2 ∷ 255 ∷ 255 ∷ 1 ∷ 255 ∷ 4 ∷ 255 ∷ 5 ∷ 255 ∷ []) 0 11 ≡ true
-unfolding chain-of-two under
-below-in-first = refl

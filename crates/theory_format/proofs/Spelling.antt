@@ -70,7 +70,7 @@ taken-dominance n t d x y k a b fresh room =
 
 -- what the tests of a command leave
 
-not-beyond : (n x y : ℕ) → beyond n x y ≡ false → (x < n) × (y < n)
+pub not-beyond : (n x y : ℕ) → beyond n x y ≡ false → (x < n) × (y < n)
 unfolding beyond
 not-beyond n x y e =
     let b = or-none (leb n x) (leb n y) e in
@@ -194,7 +194,7 @@ length-before n t d [] = omega arith
 length-before n t d (tree-edge p c ∷ cs) = length-before n ((p, c) ∷ t) d cs
 length-before n t d (dominance-edge l r ∷ cs) = omega (arith, length-before n t ((l, r) ∷ d) cs)
 
-within-beyond : (n x y : ℕ) → x < n → y < n → beyond n x y ≡ false
+pub within-beyond : (n x y : ℕ) → x < n → y < n → beyond n x y ≡ false
 unfolding beyond
 within-beyond n x y a b = rw (lt-leb n x a, lt-leb n y b)
 

@@ -5,7 +5,6 @@ use Prim.Native.Nat.{ℕ, _≤_, _<_}
 use mathlib.Core.Path.{_≡_, refl, sym, _∙_}
 use mathlib.Core.List.{List}
 use mathlib.Core.Bool.{Bool, true, false, cond, not, _&&_, _||_, true≢false}
-use mathlib.Core.Logic.{_↔_}
 use native.Mathlib.Omega.{arith}
 use lib.ListN.{length}
 use borrow.Author.Tests.{not-false}
@@ -94,6 +93,3 @@ unfolding whole
 whole-of-well-formed g w =
     let a : cyclic g ≡ false = not-holding (cyclic g) (λ h. let r = cycle-of-cyclic g (w .tree-within) h in w .no-tree-cycle (r .0) (r .1)) in
     rw (a, not-bare g (w .on-tree-edge), not-astray g (w .leaf-to-root))
-
-pub whole-well-formed : (g : Graph) → Taken (g .nodes) (g .tree) (g .dominance) → (whole g ≡ accepted g) ↔ WellFormed g
-whole-well-formed g k = (well-formed-of-whole g k, whole-of-well-formed g)

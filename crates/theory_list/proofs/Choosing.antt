@@ -4,7 +4,7 @@
 -- so the solved forms are those of the two graphs with that edge added. Neither edge was in the descent relation
 -- (`choice-grows`), so its number of pairs grows with each choice, and it is at most the square of the number of nodes.
 use Prim.Native.Nat.{ℕ, _*_, _≤_, _<_}
-use mathlib.Core.Path.{_≡_, refl, sym, ap, subst, subst₃, _∙_}
+use mathlib.Core.Path.{_≡_, refl, sym, subst, _∙_}
 use mathlib.Core.List.{List}
 use mathlib.Core.Bool.{Bool, true, false, _&&_}
 use mathlib.Core.Logic.{_⊎_, inl, inr, ⊎-elim, _↔_}
@@ -29,7 +29,7 @@ use Rattle.theory_forest.proofs.Fragments.{own-root, leaf-below-own}
 use Rattle.theory_forest.proofs.Forests.{chain, leaf-above-root, tree-below, solved-adding}
 use Rattle.theory_list.specs.Redundancy.{Loopless, keptTable, kept}
 use Rattle.theory_list.proofs.Redundancy.{kept-iff, kept-holds, kept-within}
-use Rattle.theory_list.specs.Choosing.{lowestAbove, nextAbove, forked, Triple, leavesOf, rootOf, chosenBy, chosen, Unforked, pairs}
+use Rattle.theory_list.specs.Choosing.{lowestAbove, nextAbove, forked, leavesOf, rootOf, chosenBy, chosen, Unforked, pairs}
 
 -- the search, over the table of the edges that stay
 
@@ -148,37 +148,6 @@ choice-unique {g} {v} {a} {b} {w} {c} {d} x y =
     let i : v ≡ w = omega arith in
     let same = same-root-leaves (subst (λ (z : ℕ). Choice g z a b) i x) y in
     (i, same .0, same .1)
-
-pub choice-unforked : {g : Graph} {v a b : ℕ} → Choice g v a b → Unforked g → ⊥
-choice-unforked {g} {v} {a} {b} c u =
-    let i : a ≡ b = u v a b (c .first) (c .second) in
-    let lt : a < b = c .lower in
-    omega arith
-
-pub choice-found : (g : Graph) → Shaped g → Loopless g → (v a b : ℕ) → ((v < g .nodes) × (_≡_ {A = ℕ × ℕ × ℕ} (chosen g) (v, a, b))) ↔ Choice g v a b
-choice-found g s n v a b = (
-  λ h.
-      let c : Triple = chosen g in
-      let i : c .0 ≡ v = ap (λ (t : Triple). t .0) (h .1) in
-      let j : c .1 ≡ a = ap (λ (t : Triple). t .1) (h .1) in
-      let k : c .2 ≡ b = ap (λ (t : Triple). t .2) (h .1) in
-      subst₃ (λ (x y z : ℕ). Choice g x y z) i j k (choice-made g s n (subst (λ (z : ℕ). z < g .nodes) (sym i) (h .0))),
-  λ c.
-      by-bool (ltb (chosen g .0) (g .nodes))
-      (λ (t : ltb (chosen g .0) (g .nodes) ≡ true).
-      let same = choice-unique (choice-made g s n (ltb-true (chosen g .0) (g .nodes) t)) c in
-      (kept-within g s a v (c .first) .1, λ i. (same .0 i, same .1 i, same .2 i)))
-      (λ (t : ltb (chosen g .0) (g .nodes) ≡ false).
-      absurd (choice-unforked c (choice-none g s n (ltb-false (chosen g .0) (g .nodes) t)))),
-)
-
--- a choice, or none
-pub choice-decided : (g : Graph) → Shaped g → Loopless g → ((v : ℕ) × (a : ℕ) × (b : ℕ) × Choice g v a b) ⊎ Unforked g
-choice-decided g s n =
-    by-bool (ltb (chosen g .0) (g .nodes))
-    (λ (t : ltb (chosen g .0) (g .nodes) ≡ true).
-    inl (chosen g .0, chosen g .1, chosen g .2, choice-made g s n (ltb-true (chosen g .0) (g .nodes) t)))
-    (λ (t : ltb (chosen g .0) (g .nodes) ≡ false). inr (choice-none g s n (ltb-false (chosen g .0) (g .nodes) t)))
 
 -- the two halves
 

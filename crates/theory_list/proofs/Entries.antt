@@ -13,7 +13,7 @@ use lib.ListN.{length, length-append, List·getD-append}
 use lib.Seq.{getD-append-add}
 use borrow.Author.Tests.{ltb-true, ltb-false}
 use Rattle.base_finite.proofs.Laws.{by-bool}
-use Rattle.graph.specs.Order.{entry}
+use Rattle.graph.specs.Order.{entry, ExactlyOne}
 
 -- where an entry of two lists joined stands
 
@@ -42,11 +42,7 @@ every-joined P ps qs f g i h =
     (λ (x : (j : ℕ) × (i ≡ length ps + j) × (j < length qs) × (entry (ps ++ qs) i ≡ entry qs j)). subst P (sym (x .3)) (g (x .0) (x .2)))
     (place ps qs i h)
 
--- P holds at one index, and at no other
-abbrev pub OnlyAt : (List ℕ → Type 0) → List (List ℕ) → Type 0
-OnlyAt P ps = (i : ℕ) × (i < length ps) × P (entry ps i) × ((j : ℕ) → j < length ps → P (entry ps j) → j ≡ i)
-
-pub only-first : (P : List ℕ → Type 0) (ps qs : List (List ℕ)) → OnlyAt P ps → ((i : ℕ) → i < length qs → P (entry qs i) → ⊥) → OnlyAt P (ps ++ qs)
+pub only-first : (P : List ℕ → Type 0) (ps qs : List (List ℕ)) → ExactlyOne P ps → ((i : ℕ) → i < length qs → P (entry qs i) → ⊥) → ExactlyOne P (ps ++ qs)
 only-first P ps qs o f =
     let i : ℕ = o .0 in
     let sum : length (ps ++ qs) ≡ length ps + length qs = length-append ps qs in (
@@ -60,7 +56,7 @@ only-first P ps qs o f =
           (place ps qs j h),
     )
 
-pub only-second : (P : List ℕ → Type 0) (ps qs : List (List ℕ)) → ((i : ℕ) → i < length ps → P (entry ps i) → ⊥) → OnlyAt P qs → OnlyAt P (ps ++ qs)
+pub only-second : (P : List ℕ → Type 0) (ps qs : List (List ℕ)) → ((i : ℕ) → i < length ps → P (entry ps i) → ⊥) → ExactlyOne P qs → ExactlyOne P (ps ++ qs)
 only-second P ps qs f o =
     let i : ℕ = o .0 in
     let sum : length (ps ++ qs) ≡ length ps + length qs = length-append ps qs in (

@@ -8,11 +8,10 @@ use mathlib.Core.Bool.{true, false, true≢false}
 use mathlib.Core.Logic.{⊎-elim, _↔_}
 use native.Mathlib.Omega.{arith}
 use lib.Dec.{ltb}
-use lib.ListN.{length}
 use borrow.Author.Tests.{ltb-true, ltb-false}
 use Rattle.base_finite.proofs.Laws.{by-bool}
 use Rattle.graph.specs.Graph.{Graph, root, leaf, own}
-use Rattle.graph.specs.Order.{Choice, adding, entry}
+use Rattle.graph.specs.Order.{Choice, adding}
 use Rattle.graph.specs.Placing.{hangs, Below, Contains, SolvedForm, Reading}
 use Rattle.theory_forest.specs.Shape.{Shaped}
 use Rattle.theory_forest.specs.Table.{under}
@@ -23,8 +22,7 @@ use Rattle.theory_list.specs.Choosing.{chosen, pairs}
 use Rattle.theory_list.proofs.Choosing.{choice-made, choice-none, choice-splits, choice-disjoint, first-shaped, second-shaped, pairs-le, first-grows, second-grows}
 use Rattle.theory_list.specs.Settled.{settled}
 use Rattle.theory_list.proofs.Settled.{settled-descent, settled-solved}
-use Rattle.theory_list.specs.Readings.{listed}
-use Rattle.theory_list.proofs.Readings.{reading-least, listing-exists}
+use Rattle.theory_list.proofs.Readings.{reading-least}
 use Rattle.theory_list.specs.Guided.{guide, guided, Leads, arrived, to-first, to-second}
 
 guide-arrived : (k : ℕ) (g : Graph) (p : List ℕ) → ltb (chosen g .0) (g .nodes) ≡ false → guide (suc k) g p ≡ settled g
@@ -112,10 +110,6 @@ guided-is-reading g s p f = leads-reading (guided-leads g s p f) s
 
 pub guided-within : (g : Graph) → Shaped g → (p : List ℕ) → SolvedForm g p → Contains (Below g p) (Below g (guided g p))
 guided-within g s p f = leads-within (guided-leads g s p f) s f
-
--- the end is an entry of the list
-pub guided-entry : (g : Graph) → Shaped g → (p : List ℕ) → SolvedForm g p → (i : ℕ) × (i < length (listed g)) × (entry (listed g) i ≡ guided g p)
-guided-entry g s p f = listing-exists g s .every-reading (guided g p) (guided-is-reading g s p f)
 
 pub guided-reading : (g : Graph) → Shaped g → (p : List ℕ) → SolvedForm g p → Reading g p ↔ (guided g p ≡ p)
 guided-reading g s p f = (

@@ -13,7 +13,7 @@ use Rattle.theory_list.proofs.Choosing.{first-shaped, second-shaped}
 use Rattle.theory_list.specs.Settled.{settled}
 use Rattle.theory_list.proofs.Settled.{settled-solved}
 use Rattle.theory_list.proofs.Readings.{Lists, looped, alone, split, listed-lists}
-use Rattle.theory_list.specs.Unsolvable.{Unsolvable}
+use Rattle.graph.specs.Placing.{Unsolvable}
 
 -- nor does it with an edge more
 pub unsolvable-adding : (g : Graph) (a r : ℕ) → Unsolvable g → Unsolvable (adding g a r)

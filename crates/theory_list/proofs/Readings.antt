@@ -15,13 +15,13 @@ use borrow.Author.Tests.{ltb-true, ltb-false}
 use Rattle.base_finite.specs.Below.{any}
 use Rattle.base_finite.proofs.Laws.{by-bool, any-at, any-found, not-holding}
 use Rattle.graph.specs.Graph.{Graph, root, leaf, own, Descent}
-use Rattle.graph.specs.Order.{Choice, adding, Before, halves, within-first, within-second, entry, Listing}
+use Rattle.graph.specs.Order.{Choice, adding, Before, halves, within-first, within-second, entry, Listing, ExactlyOne}
 use Rattle.graph.specs.Placing.{hangs, Below, Contains, SolvedForm, Reading, Solvable}
 use Rattle.theory_forest.specs.Shape.{Shaped}
 use Rattle.theory_forest.specs.Table.{acyclic, descends, under}
 use Rattle.theory_forest.proofs.Table.{acyclic-iff, descends-iff, descent-within, under-iff}
 use Rattle.theory_forest.proofs.Forests.{determined, solved-adding}
-use Rattle.theory_list.proofs.Entries.{Every, Covered, Ordered, OnlyAt, every-joined, only-first, only-second, ordered-joined, same-lists}
+use Rattle.theory_list.proofs.Entries.{Every, Covered, Ordered, every-joined, only-first, only-second, ordered-joined, same-lists}
 use Rattle.theory_list.specs.Redundancy.{Loopless}
 use Rattle.theory_list.specs.Choosing.{Unforked, chosen, pairs}
 use Rattle.theory_list.proofs.Choosing.{choice-made, choice-none, choice-unique, choice-splits, choice-disjoint, first-shaped, second-shaped, pairs-le, first-grows, second-grows}
@@ -112,7 +112,7 @@ module _ {g : Graph} {ps qs : List (List ℕ)} (s : Shaped g) {v a b : ℕ} (c :
 abbrev Containing : Graph → List ℕ → List ℕ → Type 0
 Containing g p q = Contains (Below g p) (Below g q)
 
-pub lists-one : {g : Graph} {ps : List (List ℕ)} → Lists g ps → Shaped g → (p : List ℕ) → SolvedForm g p → OnlyAt (Containing g p) ps
+pub lists-one : {g : Graph} {ps : List (List ℕ)} → Lists g ps → Shaped g → (p : List ℕ) → SolvedForm g p → ExactlyOne (Containing g p) ps
 unfolding adding hangs root leaf
 lists-one {g} (looped u d) s p f = absurd (f .is-forest .no-loop u (f .contains u u d))
 lists-one (alone {g = g} n o) s p f = (0, omega arith, λ u v b. f .contains u v (settled-descent g s n b), λ j h y. omega arith)
@@ -180,7 +180,7 @@ module _ {g : Graph} {ps : List (List ℕ)} (x : Lists g ps) (s : Shaped g) wher
 pub listed-solved : (g : Graph) → Shaped g → (i : ℕ) → i < length (listed g) → SolvedForm g (entry (listed g) i)
 listed-solved g s = lists-solved (listed-lists g s) s
 
-pub one-below : (g : Graph) → Shaped g → (p : List ℕ) → SolvedForm g p → OnlyAt (λ q. Contains (Below g p) (Below g q)) (listed g)
+pub one-below : (g : Graph) → Shaped g → (p : List ℕ) → SolvedForm g p → ExactlyOne (λ q. Contains (Below g p) (Below g q)) (listed g)
 one-below g s p f = lists-one (listed-lists g s) s p f
 
 pub listing-exists : (g : Graph) → Shaped g → Listing g (listed g)
@@ -270,19 +270,3 @@ solvable-decided g s = go (listed g) refl
     go : (ps : List (List ℕ)) → listed g ≡ ps → Dec (Solvable g)
     go [] e = no (empty-unsolvable g s e)
     go (p ∷ ps) e = yes (solvable-entry g s p ps e)
-
--- A closed test: the document's chain of two has the readings "3:2 6:1 8:4 10:5" and "0:4 6:1 8:2 10:5", in this order.
-chain-of-two : Graph
-chain-of-two =
-    record {
-      nodes = 12;
-      tree = (0, 1) ∷ (0, 2) ∷ (3, 4) ∷ (3, 5) ∷ (6, 7) ∷ (8, 9) ∷ (10, 11) ∷ [];
-      dominance = (1, 6) ∷ (2, 8) ∷ (4, 8) ∷ (5, 10) ∷ [];
-    }
-
-its-readings : listed chain-of-two
-    ≡ (255 ∷ 255 ∷ 255 ∷ 2 ∷ 255 ∷ 255 ∷ 1 ∷ 255 ∷ 4 ∷ 255 ∷ 5 ∷ 255 ∷ [])
-    ∷ (4 ∷ 255 ∷ 255 ∷ 255 ∷ 255 ∷ 255 ∷ 1 ∷ 255 ∷ 2 ∷ 255 ∷ 5 ∷ 255 ∷ [])
-    ∷ []
-unfolding chain-of-two listed
-its-readings = refl

@@ -216,13 +216,6 @@ module _ {g h : Graph} (y : Reduced g h) (s : Shaped g) (n : Loopless g) where
         );
       }
 
--- every dominance edge of what Rule 2 leaves stays in it, so that a choice of it is among all of them
-pub reduced-all-kept : {g h : Graph} → Reduced g h → Shaped g → Loopless g → (l r : ℕ) → DominanceEdge h l r ↔ Kept h l r
-reduced-all-kept {g} {h} y s n l r = (
-  λ d. alike-kept g h s (reduced-shaped y s) (reduced-alike y s n) n l r (y .kept-edges l r .0 d),
-  λ k. k .0,
-)
-
 -- what Rule 2 leaves of a graph is alike to what that graph is alike to
 alike-reduced : {g k h : Graph} → Alike g k → Shaped k → Loopless g → Reduced k h → Alike g h
 alike-reduced x t n y = alike-trans x (reduced-alike y t (alike-loopless x n))

@@ -4,4 +4,3 @@ pub mod Settled
 pub mod Readings
 pub mod Guided
 pub mod Keeping
-pub mod Unsolvable

@@ -2,7 +2,7 @@
 -- fragment of a way that has a property, and a ring over hops with one edge added, which is a ring without that edge or
 -- else, cut at the edge, a way from one end of it to the other.
 use Prim.Native.Nat.{ℕ}
-use mathlib.Core.Path.{_≡_, refl, sym, subst}
+use mathlib.Core.Path.{_≡_, refl, sym}
 use mathlib.Core.List.{List, [], _∷_, _++_, List·Memᴰ·head, List·Memᴰ·tail, List·Memᴰ·not-nil, List·Memᴰ·cases-cons, List·Memᴰ·append-cases, Memᴰ·cast}
 use mathlib.Core.Logic.{_≢_, _⊎_, inl, inr, ⊎-elim, ⊎-swap, dite}
 use native.Mathlib.Decide.{ℕ-discrete}
@@ -139,15 +139,6 @@ meet P d {y = y} {z = z} {l = l} w p =
     cut-meeting
     (cut-at P d w)
 
--- A ring can start at any of its fragments.
-pub turned : {Hop : Hops} {v : ℕ} (r : Ring Hop) → v ∈ r .passed → (c : Colour) × (l : List ℕ) × Way Hop v c v c l × (v ∈ l)
-turned {Hop} {v} r m =
-    let k = cut-member (r .way) m in
-    let round = append (k .rest) (off-way (λ u. u ≡ v) (k .front)) (λ u a b. k .apart u b a) in
-    let fresh : k .at ∉ (k .after ++ k .before) = λ a. ⊎-elim (k .not-after) (k .not-before) (List·Memᴰ·append-cases (k .after) a) in
-    subst (λ (u : ℕ). (c : Colour) × (l : List ℕ) × Way Hop u c u c l × (u ∈ l)) (k .hop .1)
-    (k .entry, k .at ∷ (k .after ++ k .before), step (k .differs) (k .hop .0) fresh round, List·Memᴰ·head refl)
-
 -- Hops with one edge added, from p with colour s there to q with colour t there, taken either way
 
 abbrev pub Extra : ℕ → Colour → ℕ → Colour → Hops
@@ -207,8 +198,3 @@ opened {Hop} {p} {s} {q} {t} sy r =
     (λ i. arc-back sy (arc-of-cut (λ x c y z. ⊎-elim inl (λ h. inr (⊎-swap h))) k i))
     (k .hop)))
     (cut {A = Hop} {B = Either p s q t} (λ x c y z h. h) (r .way))
-
--- An arc makes a ring with the edge.
-pub closed : {Hop : Hops} {p : ℕ} {s : Colour} {q : ℕ} {t : Colour} → Arc Hop p s q t → Ring (With Hop p s q t)
-closed a =
-    ring (step (λ e. a .differs (sym e)) (inr (inl (refl, refl, refl, refl))) (a .fresh) (way-map (λ x c y z h. inl h) (a .way))) (List·Memᴰ·head refl)

@@ -31,10 +31,6 @@ joined-only own D a v u o h =
     (cc (e .2), cc (e .3)))
     (h .3)
 
--- more edges
-pub fragment-ring-map : (own : ℕ → ℕ) (D E : ℕ → ℕ → Type 0) → ((l r : ℕ) → D l r → E l r) → FragmentRing own D → FragmentRing own E
-fragment-ring-map own D E f = ring-map (λ x c y z h. (h .0, h .1, f (h .0) (h .1) (h .2), h .3))
-
 -- what E has more than D is at most an edge from b to r
 abbrev pub OneMore : (ℕ → ℕ → Type 0) → (ℕ → ℕ → Type 0) → ℕ → ℕ → Type 0
 OneMore D E b r = (x y : ℕ) → E x y → D x y ⊎ ((x ≡ b) × (y ≡ r))

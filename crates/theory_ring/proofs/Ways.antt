@@ -90,23 +90,6 @@ is-passed u (x ∷ l) =
     (λ e. yes (List·Memᴰ·head e))
     (λ n. dite (is-passed u l) (λ m. yes (List·Memᴰ·tail m)) (λ k. no (λ m. ⊎-elim n k (List·Memᴰ·cases-cons m))))
 
--- no number stands in the list twice
-pub data Different : List ℕ → Type 0 where
-  none : Different []
-  more : {x : ℕ} {l : List ℕ} → x ∉ l → Different l → Different (x ∷ l)
-
-pub way-different : {Hop : Hops} {x : ℕ} {c : Colour} {y : ℕ} {z : Colour} {l : List ℕ} → Way Hop x c y z l → Different l
-way-different stop = none
-way-different (step d h f w) = more f (way-different w)
-
--- what each hop carries from fragment to fragment, the way carries from its start to its end
-pub way-carry : {Hop : Hops} {x : ℕ} {c : Colour} {y : ℕ} {z : Colour} {l : List ℕ} (P : ℕ → Colour → Type 0)
-    → Way Hop x c y z l → ((u : ℕ) (e o : Colour) (n : ℕ) (i : Colour) → u ∈ l → o ≢ e → Hop u o n i → P u e → P n i) → P x c
-    → P y z
-way-carry P stop g p = p
-way-carry P (step {x = x} {c = c} {o = o} {n = n} {i = i} d h f w) g p =
-    way-carry P w (λ u e o n i m. g u e o n i (List·Memᴰ·tail m)) (g x c o n i (List·Memᴰ·head refl) d h p)
-
 -- more hops
 
 pub way-map : {Hop Hop′ : Hops} → Included Hop Hop′ → {x : ℕ} {c : Colour} {y : ℕ} {z : Colour} {l : List ℕ} → Way Hop x c y z l → Way Hop′ x c y z l

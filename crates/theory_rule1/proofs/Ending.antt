@@ -4,15 +4,15 @@
 -- `configured` computes it.
 use Prim.Native.Nat.{ℕ, zero, suc, _+_, _*_, _≤_, _<_}
 use mathlib.Core.Path.{_≡_, refl, sym, _∙_}
-use mathlib.Core.List.{List, [], _∷_}
+use mathlib.Core.List.{List}
 use mathlib.Core.Bool.{true, false, cond, true≢false}
 use native.Mathlib.Omega.{arith}
 use borrow.Author.Tests.{leb-false}
-use Rattle.base_finite.specs.Below.{any, all, count, least, spread}
+use Rattle.base_finite.specs.Below.{any, count}
 use Rattle.base_finite.proofs.Laws.{by-bool, any-false, count-le, not-holding}
-use Rattle.graph.specs.Graph.{Graph, entered, left, root, leaf, parent, top, own, leafOf}
-use Rattle.graph.specs.Placing.{hangs, Below, Contains, SolvedForm, Configuration}
-use Rattle.graph.specs.Rule1.{problem, up, rise, depth, shallowest, problemLeaf, staying, lowestLeaf, shifted, Rule1, done, again}
+use Rattle.graph.specs.Graph.{Graph}
+use Rattle.graph.specs.Placing.{hangs, SolvedForm, Configuration}
+use Rattle.graph.specs.Rule1.{problem, shifted, Rule1, done, again}
 use Rattle.theory_edges.proofs.Edges.{sum-grows, sum-bound}
 use Rattle.theory_edges.specs.Edges.{sum}
 use Rattle.theory_edges.proofs.Ends.{leaf-below, root-below}
@@ -70,10 +70,6 @@ pub rule1-configuration : {g : Graph} {p q : List ℕ} → Shaped g → Rule1 g 
 rule1-configuration s (done {p = p} e) o = record { solved = o; one-root = no-problem _ p e }
 rule1-configuration s (again {p = p} t r) o = rule1-configuration s r (shifted-solved _ p s t o)
 
-pub configuration-contains : {g : Graph} {p q : List ℕ} → Shaped g → Rule1 g p q → Contains (Below g q) (Below g p)
-configuration-contains s (done e) u v b = b
-configuration-contains s (again {p = p} t r) u v b = configuration-contains s r u v (shifted-contains _ p s t u v b)
-
 -- Rule 1 as a function
 
 -- k steps at most
@@ -102,16 +98,3 @@ pub rule1-ends : (g : Graph) (p : List ℕ) → Shaped g → SolvedForm g p → 
 rule1-ends g p s o =
     let r = configured-reaches g p s o in
     (configured g p, r, rule1-configuration s r o)
-
--- A closed test, the square of four fragments: 6 hangs under 3 beside 4, and goes to 5, the leaf of 4's fragment.
-square : Graph
-square =
-    record {
-      nodes = 8;
-      tree = (0, 1) ∷ (2, 3) ∷ (4, 5) ∷ (6, 7) ∷ [];
-      dominance = (1, 4) ∷ (1, 6) ∷ (3, 4) ∷ (3, 6) ∷ [];
-    }
-
-square-configured : configured square (255 ∷ 255 ∷ 1 ∷ 255 ∷ 3 ∷ 255 ∷ 3 ∷ 255 ∷ []) ≡ 255 ∷ 255 ∷ 1 ∷ 255 ∷ 3 ∷ 255 ∷ 5 ∷ 255 ∷ []
-unfolding square configured steps shifted problemLeaf staying lowestLeaf shallowest problem depth rise up hangs leafOf own top root leaf entered left parent any all count least spread
-square-configured = refl

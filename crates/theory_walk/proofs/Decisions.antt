@@ -1,38 +1,27 @@
 -- The decisions of a walk: what pushing one at the end of the list and popping it again does, and what holds of the graph
 -- at valid decisions. It is a dominance graph with the same nodes and tree edges, it has a solved form, and its descent
 -- relation has at least one pair more for each decision; so there are at most as many decisions as pairs of nodes.
-use Prim.Native.Nat.{ℕ, zero, suc, _+_, _*_, _≤_, _<_}
-use mathlib.Core.Path.{_≡_, refl, sym, ap, subst, _∙_}
+use Prim.Native.Nat.{ℕ, _+_, _*_, _≤_, _<_}
+use mathlib.Core.Path.{_≡_, refl, subst, _∙_}
 use mathlib.Core.List.{List, [], _∷_, _++_}
-use mathlib.Core.Bool.{true}
-use native.Mathlib.Nat.{le-of-suc-le-suc}
 use native.Mathlib.Omega.{arith}
-use lib.ListN.{length, getD, take}
-use lib.Seq.{take-suc}
-use Rattle.graph.specs.Graph.{Graph, own, root, leaf}
+use lib.ListN.{length}
+use Rattle.graph.specs.Graph.{Graph, own, root}
 use Rattle.graph.specs.Order.{Choice}
 use Rattle.graph.specs.Placing.{Solvable}
 use Rattle.theory_forest.specs.Shape.{Shaped}
 use Rattle.theory_list.specs.Redundancy.{Loopless}
-use Rattle.theory_list.proofs.Choosing.{lower-leaf, upper-leaf, pairs-le}
+use Rattle.theory_list.proofs.Choosing.{pairs-le}
 use Rattle.theory_list.specs.Choosing.{pairs}
 use Rattle.theory_walk.specs.Walk.{Decision, half, graphAt, Valid, outset, taken, first, second}
 use Rattle.theory_walk.proofs.Halves.{solvable-loopless, half-nodes, half-tree, half-solvable, half-shaped, half-grows}
 
 -- the graph at the decisions
 
-pub graph-outset : (g : Graph) → graphAt g [] ≡ g
-unfolding graphAt
-graph-outset g = refl
-
 pub graph-pushed : (g : Graph) (ds : List Decision) (d : Decision) → graphAt g (ds ++ (d ∷ [])) ≡ half (graphAt g ds) d
 unfolding graphAt
 graph-pushed g [] d = refl
 graph-pushed g (e ∷ ds) d = graph-pushed (half g e) ds d
-
--- one edge after the other
-pub graph-next : (g : Graph) (ds : List Decision) (k : ℕ) (d : Decision) → k < length ds → graphAt g (take (suc k) ds) ≡ half (graphAt g (take k ds)) (getD ds k d)
-graph-next g ds k d h = ap (graphAt g) (take-suc ds k d h) ∙ graph-pushed g (take k ds) (getD ds k d)
 
 pub graph-nodes : (g : Graph) (ds : List Decision) → graphAt g ds .nodes ≡ g .nodes
 unfolding graphAt
@@ -43,10 +32,6 @@ pub graph-tree : (g : Graph) (ds : List Decision) → graphAt g ds .tree ≡ g .
 unfolding graphAt
 graph-tree g [] = refl
 graph-tree g (d ∷ ds) = graph-tree (half g d) ds ∙ half-tree g d
-
-half-leaf : (g : Graph) (d : Decision) (v : ℕ) → leaf (half g d) v ≡ leaf g v
-unfolding leaf
-half-leaf g d v = rw (half-nodes g d, half-tree g d)
 
 pub graph-own : (g : Graph) (ds : List Decision) (v : ℕ) → own (graphAt g ds) v ≡ own g v
 unfolding own
@@ -83,30 +68,12 @@ valid-turned {g} ds a b x f =
     let l = valid-popped g ds (first a b) x in
     valid-pushed (l .before) (second a b) (l .choice) f
 
-pub valid-prefix : {g : Graph} {ds : List Decision} (k : ℕ) → Valid g ds → Valid g (take k ds)
-valid-prefix zero x = outset
-valid-prefix (suc k) outset = outset
-valid-prefix (suc k) (taken v d c f x) = taken v d c f (valid-prefix k x)
-
--- each decision is about two leaves
-pub decision-leaves : {g : Graph} {ds : List Decision} → Shaped g → Valid g ds → (k : ℕ) (d : Decision) → k < length ds → (leaf g (getD ds k d .0) ≡ true) × (leaf g (getD ds k d .1) ≡ true)
-decision-leaves s outset k d h = absurd (omega arith)
-decision-leaves s (taken {g = g} v e c f x) zero d h = (lower-leaf g s c, upper-leaf g s c)
-decision-leaves s (taken {g = g} {ds = ds} v e c f x) (suc k) d h =
-    let both = decision-leaves (half-shaped g s e c) x k d (le-of-suc-le-suc h) in
-    (sym (half-leaf g e (getD ds k d .0)) ∙ both .0, sym (half-leaf g e (getD ds k d .1)) ∙ both .1)
-
 -- what holds of the graph at valid decisions
 
 pub graph-shaped : {g : Graph} {ds : List Decision} → Shaped g → Valid g ds → Shaped (graphAt g ds)
 unfolding graphAt
 graph-shaped s outset = s
 graph-shaped s (taken {g = g} v d c f x) = graph-shaped (half-shaped g s d c) x
-
-pub graph-solvable : {g : Graph} {ds : List Decision} → Solvable g → Valid g ds → Solvable (graphAt g ds)
-unfolding graphAt
-graph-solvable f outset = f
-graph-solvable f (taken v d c h x) = graph-solvable h x
 
 -- each decision adds a pair
 pub pairs-grown : {g : Graph} {ds : List Decision} → Shaped g → Valid g ds → pairs g + length ds ≤ pairs (graphAt g ds)

@@ -8,7 +8,7 @@ use mathlib.Core.Bool.{Bool, true, false}
 use mathlib.Core.Logic.{⊎-elim}
 use Rattle.graph.specs.Graph.{Graph, own}
 use Rattle.graph.specs.Order.{Choice, adding}
-use Rattle.graph.specs.Placing.{SolvedForm, Solvable}
+use Rattle.graph.specs.Placing.{SolvedForm, Solvable, Unsolvable}
 use Rattle.theory_forest.specs.Shape.{Shaped}
 use Rattle.theory_forest.proofs.Forests.{solved-adding}
 use Rattle.theory_list.specs.Redundancy.{Loopless}
@@ -18,7 +18,6 @@ use Rattle.theory_list.specs.Settled.{settled}
 use Rattle.theory_list.specs.Readings.{listed}
 use Rattle.theory_list.proofs.Readings.{alone, split, listed-lists, lists-listing, listing-exists, listing-unique, unsolvable-empty}
 use Rattle.theory_list.proofs.Guided.{solved-loopless}
-use Rattle.theory_list.specs.Unsolvable.{Unsolvable}
 use Rattle.theory_walk.specs.Walk.{Decision, half, first, second}
 
 pub solvable-loopless : {g : Graph} → Solvable g → Loopless g

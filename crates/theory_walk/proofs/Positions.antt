@@ -4,15 +4,14 @@
 use Prim.Native.Nat.{ℕ}
 use mathlib.Core.Path.{_≡_, refl, sym, ap, _∙_}
 use mathlib.Core.List.{List, [], _∷_, _++_, append-nil, append-assoc}
-use mathlib.Core.Bool.{Bool, true, false}
 use Rattle.graph.specs.Graph.{Graph}
 use Rattle.graph.specs.Order.{Choice}
 use Rattle.theory_forest.specs.Shape.{Shaped}
 use Rattle.theory_list.specs.Redundancy.{Loopless}
 use Rattle.theory_list.specs.Readings.{listed}
-use Rattle.theory_list.specs.Unsolvable.{Unsolvable}
-use Rattle.theory_walk.specs.Walk.{Decision, first, second, half, graphAt, Valid, outset, taken, otherAfter, after}
-use Rattle.theory_walk.proofs.Halves.{solvable-loopless, listed-empty, listed-split, half-solvable, half-shaped}
+use Rattle.graph.specs.Placing.{Unsolvable}
+use Rattle.theory_walk.specs.Walk.{Decision, first, second, half, graphAt, Valid, otherAfter, after}
+use Rattle.theory_walk.proofs.Halves.{listed-empty, listed-split, half-shaped}
 use Rattle.theory_walk.proofs.Decisions.{graph-pushed, Last, valid-popped, graph-shaped}
 
 -- what comes after
@@ -42,23 +41,6 @@ after-dropped {g} ds a b s x n =
     after-first g ds a b ∙ ap (λ (r : List (List ℕ)). r ++ after g ds) e
 
 -- where the readings of the graph at the decisions stand
-
--- the list of the graph, seen from a half
-entered-half : (g : Graph) → Shaped g → Loopless g → {v : ℕ} (d : Decision) → Choice g v (d .0) (d .1) → (done : List (List ℕ)) × (listed g ≡ done ++ (listed (half g d) ++ otherAfter g d))
-entered-half g s n d c = go (d .2)
-  where
-    go : (side : Bool) → (done : List (List ℕ)) × (listed g ≡ done ++ (listed (half g (d .0, d .1, side)) ++ otherAfter g (d .0, d .1, side)))
-    go true = ([], listed-split g s n c)
-    go false =
-        (listed (half g (first (d .0) (d .1))), listed-split g s n c ∙ ap (λ (l : List (List ℕ)). listed (half g (first (d .0) (d .1))) ++ l) (sym (append-nil (listed (half g (second (d .0) (d .1)))))))
-
-pub position : {g : Graph} {ds : List Decision} → Shaped g → Valid g ds → (done : List (List ℕ)) × (listed g ≡ done ++ (listed (graphAt g ds) ++ after g ds))
-unfolding graphAt after
-position {g} s outset = ([], sym (append-nil (listed g)))
-position s (taken {g = g} {ds = ds} v d c f x) =
-    let here = entered-half g s (solvable-loopless (half-solvable g d f)) d c in
-    let there = position (half-shaped g s d c) x in
-    (here .0 ++ there .0, here .1 ∙ rw (there .1) (simp append-assoc))
 
 -- entering a half
 

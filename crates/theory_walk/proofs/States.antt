@@ -5,37 +5,23 @@
 use Prim.Native.Nat.{ℕ, _+_, _-_, _*_, _<_}
 use mathlib.Core.Path.{_≡_, sym, ap, subst, _∙_}
 use mathlib.Core.List.{List, [], _∷_, _++_, append-nil}
-use mathlib.Core.Logic.{_⊎_, inl, inr}
 use native.Mathlib.Nat.{add-zero}
 use native.Mathlib.Omega.{arith}
-use lib.ListN.{length, take, drop, length-append, length-drop, take-append-drop}
-use lib.Seq.{drop-append-seam, drop-drop, getD-drop, length-take-le}
+use lib.ListN.{length, drop, length-drop}
+use lib.Seq.{drop-drop, getD-drop}
 use Rattle.graph.specs.Graph.{Graph}
 use Rattle.graph.specs.Order.{Choice, entry}
-use Rattle.graph.specs.Placing.{Solvable, Reading}
+use Rattle.graph.specs.Placing.{Solvable, Unsolvable}
 use Rattle.theory_forest.specs.Shape.{Shaped}
 use Rattle.theory_list.specs.Choosing.{Unforked}
 use Rattle.theory_list.specs.Settled.{settled}
 use Rattle.theory_list.specs.Readings.{listed}
-use Rattle.theory_list.proofs.Readings.{listing-exists, solvable-decided}
-use Rattle.theory_list.specs.Unsolvable.{Unsolvable}
-use Rattle.theory_walk.specs.Walk.{Decision, first, second, half, graphAt, Valid, outset, after, Remaining, Entering, At, Leaving}
-use Rattle.theory_walk.proofs.Halves.{solvable-loopless, listed-settled, half-shaped, second-solvable}
-use Rattle.theory_walk.proofs.Decisions.{graph-pushed, valid-pushed, valid-popped, valid-turned, graph-shaped, graph-solvable, room-left}
-use Rattle.theory_walk.proofs.Positions.{position, after-outset, after-second, after-dropped, after-turned, listed-first, listed-second}
+use Rattle.theory_walk.specs.Walk.{Decision, first, second, half, graphAt, outset, after, Remaining, Entering, At, Leaving}
+use Rattle.theory_walk.proofs.Halves.{solvable-loopless, listed-settled, second-solvable}
+use Rattle.theory_walk.proofs.Decisions.{graph-pushed, valid-pushed, valid-popped, valid-turned, graph-shaped, room-left}
+use Rattle.theory_walk.proofs.Positions.{after-outset, after-second, after-dropped, after-turned, listed-first, listed-second}
 
 -- what is left
-
-pub remaining-done : {g : Graph} (done rest : List (List ℕ)) → listed g ≡ done ++ rest → Remaining g (length done) rest
-remaining-done {g} done rest e =
-    record {
-      within = rw (e, length-append done rest) (omega arith);
-      rest-is = rw e (drop-append-seam done rest);
-    }
-
-pub done-remaining : {g : Graph} {k : ℕ} {rest : List (List ℕ)} → Remaining g k rest → (done : List (List ℕ)) × (length done ≡ k) × (listed g ≡ done ++ rest)
-done-remaining {g} {k} {rest} r =
-    (take k (listed g), length-take-le k (listed g) (r .within), sym (take-append-drop k (listed g)) ∙ ap (λ (l : List (List ℕ)). take k (listed g) ++ l) (r .rest-is))
 
 pub remaining-same : {g : Graph} {k : ℕ} {rest more : List (List ℕ)} → rest ≡ more → Remaining g k rest → Remaining g k more
 remaining-same {g} {k} e r = subst (Remaining g k) e r
@@ -75,18 +61,6 @@ entering-outset g f =
       remaining = record { within = omega arith; rest-is = sym (append-nil (listed g)) };
     }
 
--- valid decisions lead to some place in the list
-pub entering-valid : {g : Graph} {ds : List Decision} → Shaped g → Solvable g → Valid g ds → (k : ℕ) × Entering g ds k
-entering-valid {g} {ds} s f x =
-    let p = position s x in (
-      length (p .0),
-      record {
-        valid = x;
-        solvable = graph-solvable f x;
-        remaining = remaining-done (p .0) (listed (graphAt g ds) ++ after g ds) (p .1);
-      },
-    )
-
 module _ {g : Graph} {ds : List Decision} {k : ℕ} (s : Shaped g) (x : Entering g ds k) where
   pub entering-shaped : Shaped (graphAt g ds)
   entering-shaped = graph-shaped s (x .valid)
@@ -113,13 +87,6 @@ module _ {g : Graph} {ds : List Decision} {k : ℕ} (s : Shaped g) (x : Entering
           remaining = remaining-same (listed-second s (x .valid) (solvable-loopless (x .solvable)) c n) (x .remaining);
         }
 
-    pub entering-half : (Solvable (half (graphAt g ds) (first a b)) × Entering g (ds ++ (first a b ∷ [])) k) ⊎ (Unsolvable (half (graphAt g ds) (first a b)) × Entering g (ds ++ (second a b ∷ [])) k)
-    entering-half = go (solvable-decided (half (graphAt g ds) (first a b)) (half-shaped (graphAt g ds) entering-shaped (first a b) c))
-      where
-        go : Dec (Solvable (half (graphAt g ds) (first a b))) → (Solvable (half (graphAt g ds) (first a b)) × Entering g (ds ++ (first a b ∷ [])) k) ⊎ (Unsolvable (half (graphAt g ds) (first a b)) × Entering g (ds ++ (second a b ∷ [])) k)
-        go (yes f) = inl (f, entering-first f)
-        go (no n) = inr (n, entering-second n)
-
   -- where none is left
   pub entering-at : Unforked (graphAt g ds) → At g ds k
   entering-at u =
@@ -139,12 +106,6 @@ module _ {g : Graph} {ds : List Decision} {k : ℕ} (x : At g ds k) where
 
   pub at-entry : entry (listed g) k ≡ settled (graphAt g ds)
   at-entry = remaining-entry (x .remaining)
-
-  pub at-reading : Shaped g → Reading g (settled (graphAt g ds))
-  at-reading s = subst (Reading g) at-entry (listing-exists g s .only-readings k at-below)
-
-  pub at-done : (done : List (List ℕ)) × (length done ≡ k) × (listed g ≡ done ++ (settled (graphAt g ds) ∷ after g ds))
-  at-done = done-remaining (x .remaining)
 
   pub at-leaving : Leaving g ds (k + 1)
   at-leaving = record { valid = x .valid; remaining = remaining-next (x .remaining) }

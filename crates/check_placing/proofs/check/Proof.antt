@@ -1,7 +1,6 @@
 -- Bytes that are no placing, a placing that is no solved form, a solved form.
 use mathlib.Core.Path.{sym, _∙_}
 use denote.Ref.{now}
-use Rattle.graph.specs.Placing.{placing}
 use Rattle.theory_forest.proofs.Shape.{well-formed-shaped}
 use Rattle.base_tables.proofs.TreeLaws.{roots-within}
 use Rattle.check_placing.proofs.Shapes.{not-true, not-false, placing-links}

@@ -11,8 +11,8 @@ use borrow.Author.Needs.{needs}
 use borrow.Author.Tests.{eq-eqb, ne-eqb, eqb-false}
 use Rattle.base_finite.specs.Below.{any}
 use Rattle.format.specs.Text.{decimal}
-use Rattle.base_finite.specs.Stores.{Written}
-use Rattle.show_drawing.specs.Drawn.{leafIn, fragmentIn, leafAt, hungAt, leavesIn, hungIn}
+use Rattle.base_finite.specs.Stores.{Written, entryIs}
+use Rattle.show_drawing.specs.Drawn.{leafIn, fragmentIn, leavesIn, hungIn}
 use Rattle.base_finite.proofs.Stores.{written-none, written-one, written-more}
 use Rattle.show_drawing.proofs.Texts.{fragment-none, fragment-some, fragment-length, leaf-length, leaf-plain, leaf-hung}
 use Rattle.show_drawing.proofs.Loops.{Running, running-none, running-skip, running-done, marked-none, marked-skip, marked-take, mark-first, mark-other, mark-room, mark-take}
@@ -57,8 +57,8 @@ leaf-calls t = (number-reads.Asked, number-reads.Learnt, fragment-below t, fragm
 
 abbrev fragment-Inv-loop : fragment-lts.InvT-loop
 fragment-Inv-loop home placing n r left out₀ start at₀ mark₀ x₀ out at mark x =
-    Running (40 ∷ []) (44 ∷ []) (leafIn (λ s. fragmentIn (left - 1) n home placing s) n placing) (leafAt home r) n out₀ at₀ out at x
-    × (mark ≡ cond (any x (leafAt home r)) 44 40)
+    Running (40 ∷ []) (44 ∷ []) (leafIn (λ s. fragmentIn (left - 1) n home placing s) n placing) (entryIs home r) n out₀ at₀ out at x
+    × (mark ≡ cond (any x (entryIs home r)) 44 40)
 
 abbrev fragment-μ-loop : fragment-lts.MeasureT-loop
 fragment-μ-loop home placing n r left out₀ start at₀ mark₀ x₀ out at mark x = n - x
@@ -96,11 +96,11 @@ fragment-loop-again : (t : ℕ) → fragment-lts.Need-loop-again (fragment-calls
 fragment-loop-again t c =
     let a = c .before .before .before .before .before .before .before .before .before .before .before .before .args in
     let l = c .before .before .before .loop in
-    let out : leafAt (now (a .home)) (a .r) (l .x) ≡ false = ne-eqb _ _ (c .if2 .taken) in
+    let out : entryIs (now (a .home)) (a .r) (l .x) ≡ false = ne-eqb _ _ (c .if2 .taken) in
     (running-skip _ _ _ _ _ _ _ _ _ _ (l .inv .0) (c .before .before .loop-test .taken) out, marked-skip _ _ _ _ _ out (l .inv .1))
 
 -- at a leaf of the fragment: it is one, and its text has room
-is-leaf : (t : ℕ) (c : fragment-lts.Else2 (fragment-calls t) (fragment-at t) fragment.Post fragment-Inv-loop fragment-μ-loop) → leafAt (now (c .before .before .before .before .before .before .before .before .before .before .before .before .args .home)) (c .before .before .before .before .before .before .before .before .before .before .before .before .args .r) (c .before .before .before .loop .x) ≡ true
+is-leaf : (t : ℕ) (c : fragment-lts.Else2 (fragment-calls t) (fragment-at t) fragment.Post fragment-Inv-loop fragment-μ-loop) → entryIs (now (c .before .before .before .before .before .before .before .before .before .before .before .before .args .home)) (c .before .before .before .before .before .before .before .before .before .before .before .before .args .r) (c .before .before .before .loop .x) ≡ true
 is-leaf t c = eq-eqb _ _ (c .if2 .left)
 
 leaf-fits : (t : ℕ) (c : fragment-lts.Else2 (fragment-calls t) (fragment-at t) fragment.Post fragment-Inv-loop fragment-μ-loop)
@@ -176,8 +176,8 @@ fragment-returns-2 t c =
 
 abbrev leaf-Inv-loop : leaf-lts.InvT-loop
 leaf-Inv-loop home placing n l left out₀ start at₀ mark₀ r₀ out at mark r =
-    Running (91 ∷ []) (59 ∷ []) (λ s. fragmentIn left n home placing s) (hungAt placing l) n out₀ at₀ out at r
-    × (mark ≡ cond (any r (hungAt placing l)) 59 91)
+    Running (91 ∷ []) (59 ∷ []) (λ s. fragmentIn left n home placing s) (entryIs placing l) n out₀ at₀ out at r
+    × (mark ≡ cond (any r (entryIs placing l)) 59 91)
 
 abbrev leaf-μ-loop : leaf-lts.MeasureT-loop
 leaf-μ-loop home placing n l left out₀ start at₀ mark₀ r₀ out at mark r = n - r
@@ -210,11 +210,11 @@ leaf-loop-again : (t : ℕ) → leaf-lts.Need-loop-again (leaf-calls t) (leaf-at
 leaf-loop-again t c =
     let a = c .before .before .before .before .before .before .before .before .before .before .before .args in
     let l = c .before .before .before .loop in
-    let out : hungAt (now (a .placing)) (a .l) (l .r) ≡ false = ne-eqb _ _ (c .if1 .taken) in
+    let out : entryIs (now (a .placing)) (a .l) (l .r) ≡ false = ne-eqb _ _ (c .if1 .taken) in
     (running-skip _ _ _ _ _ _ _ _ _ _ (l .inv .0) (c .before .before .loop-test .taken) out, marked-skip _ _ _ _ _ out (l .inv .1))
 
 -- at a root hung under the leaf: it is one, and its text has room
-is-hung : (t : ℕ) (c : leaf-lts.Else1 (leaf-calls t) (leaf-at t) leaf.Post leaf-Inv-loop leaf-μ-loop) → hungAt (now (c .before .before .before .before .before .before .before .before .before .before .before .args .placing)) (c .before .before .before .before .before .before .before .before .before .before .before .args .l) (c .before .before .before .loop .r) ≡ true
+is-hung : (t : ℕ) (c : leaf-lts.Else1 (leaf-calls t) (leaf-at t) leaf.Post leaf-Inv-loop leaf-μ-loop) → entryIs (now (c .before .before .before .before .before .before .before .before .before .before .before .args .placing)) (c .before .before .before .before .before .before .before .before .before .before .before .args .l) (c .before .before .before .loop .r) ≡ true
 is-hung t c = eq-eqb _ _ (c .if1 .left)
 
 hung-fits : (t : ℕ) (c : leaf-lts.Else1 (leaf-calls t) (leaf-at t) leaf.Post leaf-Inv-loop leaf-μ-loop)
@@ -257,7 +257,7 @@ leaf-end : (t : ℕ) (c : leaf-lts.After-loop (leaf-calls t) (leaf-at t) leaf.Po
     → let a = c .before .before .before .before .before .before .before .before .before .args in
     let l = c .before .loop in
     Written (now (a .out)) (a .start) (decimal (a .l) ++ hungIn (a .left) (a .n) (now (a .home)) (now (a .placing)) (a .l) (a .n)) (l .out) (l .at)
-    × (l .mark ≡ cond (any (a .n) (hungAt (now (a .placing)) (a .l))) 59 91)
+    × (l .mark ≡ cond (any (a .n) (entryIs (now (a .placing)) (a .l))) 59 91)
     × (length (l .out) ≡ length (now (a .out)))
 leaf-end t c =
     let a = c .before .before .before .before .before .before .before .before .before .args in

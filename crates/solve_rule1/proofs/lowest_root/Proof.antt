@@ -8,12 +8,12 @@ use denote.Ref.{now}
 use borrow.Author.Count.{below-none, below-more}
 use borrow.Author.Tests.{eq-eqb, ne-eqb}
 use Rattle.base_finite.proofs.Laws.{least-is, least-none}
-use Rattle.solve_rule1.specs.Carried.{carried}
+use Rattle.base_finite.specs.Stores.{entryIs}
 use Rattle.solve_rule1.proofs.lowest_root.Statement.{statement}
 use Rattle.solve_rule1.proofs.lowest_root.Tie as tie
 
 abbrev Inv-loop : tie.InvT-loop
-Inv-loop p n leaf v₀ v = (v ≤ n) × ((k : ℕ) → k < v → carried p leaf k ≡ false)
+Inv-loop p n leaf v₀ v = (v ≤ n) × ((k : ℕ) → k < v → entryIs p leaf k ≡ false)
 
 abbrev μ-loop : tie.MeasureT-loop
 μ-loop p n leaf v₀ v = n - v
@@ -28,7 +28,7 @@ returns : tie.Need-returns Inv-loop μ-loop
 returns c =
     let l = c .before .before .before .loop in
     let a = c .before .before .before .before .args in
-    sym (least-is (a .n) (carried (now (a .p)) (a .leaf)) (l .v) (omega arith) (eq-eqb _ _ (c .if1 .taken)) (l .inv .1))
+    sym (least-is (a .n) (entryIs (now (a .p)) (a .leaf)) (l .v) (omega arith) (eq-eqb _ _ (c .if1 .taken)) (l .inv .1))
 
 add-v : tie.Need-add-v Inv-loop μ-loop
 add-v c = search needs
@@ -43,7 +43,7 @@ returns-2 : tie.Need-returns-2 Inv-loop μ-loop
 returns-2 c =
     let l = c .before .loop in
     let a = c .before .before .args in
-    sym (least-none (a .n) (carried (now (a .p)) (a .leaf)) (λ k h. l .inv .1 k (omega arith)))
+    sym (least-none (a .n) (entryIs (now (a .p)) (a .leaf)) (λ k h. l .inv .1 k (omega arith)))
 
 pub lowest-root-spec : {M : Type 1} → statement M
 lowest-root-spec =

@@ -7,7 +7,8 @@ use denote.Ref.{now}
 use lib.ListN.{getD}
 use Rattle.base_finite.proofs.Counting.{none-counted, once-more, twice-more}
 use Rattle.base_nodeset.proofs.Members.{of-byte-is}
-use Rattle.solve_rule1.specs.Carried.{carried, Carrying}
+use Rattle.base_finite.specs.Stores.{entryIs}
+use Rattle.solve_rule1.specs.Carried.{Carrying}
 use Rattle.solve_rule1.proofs.several.Statement.{statement}
 use Rattle.solve_rule1.proofs.several.Tie as tie
 
@@ -27,8 +28,8 @@ loop-holds : tie.Need-loop-holds Inv-loop μ-loop
 loop-holds c =
     let p = now (c .before .before .before .args .p) in (
       omega arith,
-      λ l h. c .before .empty .ensures l ∙ sym (none-counted 1 (carried p l) (omega arith)),
-      λ l h. c .empty2 .ensures l ∙ sym (none-counted 2 (carried p l) (omega arith)),
+      λ l h. c .before .empty .ensures l ∙ sym (none-counted 1 (entryIs p l) (omega arith)),
+      λ l h. c .empty2 .ensures l ∙ sym (none-counted 2 (entryIs p l) (omega arith)),
     )
 
 shared-slice-read-of-byte : tie.Need-shared-slice-read-of-byte Inv-loop μ-loop
@@ -59,8 +60,8 @@ loop-again c =
     let p = now (f .before .before .before .before .before .before .before .args .p) in
     let leaf = of-byte-is (getD p (l .v) 0) (f .of-byte .result) (f .of-byte .ensures) in (
       omega arith,
-      λ k h. c .union2 .ensures k ∙ rw (leaf k h, l .inv .1 k h) (once-more (l .v) (carried p k)),
-      λ k h. c .before .union .ensures k ∙ rw (c .before .before .intersection .ensures k, leaf k h, l .inv .1 k h, l .inv .2 k h) (twice-more (l .v) (carried p k)),
+      λ k h. c .union2 .ensures k ∙ rw (leaf k h, l .inv .1 k h) (once-more (l .v) (entryIs p k)),
+      λ k h. c .before .union .ensures k ∙ rw (c .before .before .intersection .ensures k, leaf k h, l .inv .1 k h, l .inv .2 k h) (twice-more (l .v) (entryIs p k)),
     )
 
 returns : tie.Need-returns Inv-loop μ-loop

@@ -3,10 +3,6 @@ use lib.ListN.{length}
 use borrow.Author.Needs.{needs}
 use Rattle.test_sheets.proofs.print_sheets.Statement.{statement}
 use Rattle.test_sheets.proofs.print_sheets.Tie as tie
-use Rattle.test_sheets.proofs.print_sheets.Reads as reads
-use Rattle.test_sheets.proofs.print_sheets.Lts as lts
-use Rattle.test_sheets.proofs.print_sheet.Reads as print-sheet-reads
-use Rattle.test_sheets.proofs.wide.Reads as wide-reads
 
 abbrev Inv-loop : tie.InvT-loop
 Inv-loop input at₀ at = at ≤ length input

@@ -7,9 +7,6 @@ use Rattle.format.specs.Sheet.{takesTwo}
 use Rattle.sheet_decode.proofs.Steps.{step-missing, step-end, step-unknown, step-short, step-tree, step-dominance}
 use Rattle.sheet_decode.proofs.command.decode.Statement.{statement}
 use Rattle.sheet_decode.proofs.command.decode.Tie as tie
-use Rattle.sheet_decode.proofs.command.decode.Reads as reads
-use Rattle.sheet_decode.proofs.command.decode.Lts as lts
-use Rattle.sheet_decode.proofs.command.end.Reads as end-reads
 
 two : takesTwo 2 ≡ true
 unfolding takesTwo

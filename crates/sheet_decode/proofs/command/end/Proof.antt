@@ -1,8 +1,6 @@
 use borrow.Author.Tests.{eq-eqb, ne-eqb}
 use Rattle.sheet_decode.proofs.command.end.Statement.{statement}
 use Rattle.sheet_decode.proofs.command.end.Tie as tie
-use Rattle.sheet_decode.proofs.command.end.Reads as reads
-use Rattle.sheet_decode.proofs.command.end.Lts as lts
 
 returns : tie.Need-returns
 returns c = rw (eq-eqb _ _ (c .if1 .taken))

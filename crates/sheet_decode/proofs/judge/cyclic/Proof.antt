@@ -9,9 +9,6 @@ use Rattle.sheet_decode.specs.Judge.{risesIn, cyclicIn}
 use borrow.Author.Needs.{needs}
 use Rattle.sheet_decode.proofs.judge.cyclic.Statement.{statement}
 use Rattle.sheet_decode.proofs.judge.cyclic.Tie as tie
-use Rattle.sheet_decode.proofs.judge.cyclic.Reads as reads
-use Rattle.sheet_decode.proofs.judge.cyclic.Lts as lts
-use Rattle.sheet_decode.proofs.judge.rises.Reads as rises-reads
 
 abbrev Inv-loop : tie.InvT-loop
 Inv-loop parent n v₀ v = (v ≤ n) × ((k : ℕ) → k < v → risesIn n parent k ≡ false)

@@ -8,14 +8,6 @@ use Rattle.sheet_decode.proofs.Judges.{graphOf, cyclic-held, bare-held,
 use borrow.Author.Needs.{needs}
 use Rattle.sheet_decode.proofs.judge.judge.Statement.{statement}
 use Rattle.sheet_decode.proofs.judge.judge.Tie as tie
-use Rattle.sheet_decode.proofs.judge.judge.Reads as reads
-use Rattle.sheet_decode.proofs.judge.judge.Lts as lts
-use Rattle.base_nodeset.proofs.NodeSet.difference.Reads as difference-reads
-use Rattle.base_nodeset.proofs.NodeSet.is_empty.Reads as is-empty-reads
-use Rattle.sheet_decode.proofs.judge.astray.Reads as astray-reads
-use Rattle.sheet_decode.proofs.judge.cyclic.Reads as cyclic-reads
-use Rattle.base_tables.proofs.trees.inner_nodes.Reads as inner-nodes-reads
-use Rattle.base_tables.proofs.trees.root_nodes.Reads as root-nodes-reads
 
 cyclic-requires : tie.Need-cyclic-requires
 cyclic-requires c κs = search needs

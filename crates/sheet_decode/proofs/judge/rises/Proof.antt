@@ -1,4 +1,4 @@
-use Prim.Native.Nat.{_-_, _≤_, _<_}
+use Prim.Native.Nat.{_≤_, _<_}
 use mathlib.Core.Path.{_≡_, refl, sym, _∙_}
 use native.Mathlib.Omega.{arith}
 use Rattle.sheet_decode.specs.Judge.{risesIn}
@@ -6,8 +6,6 @@ use Rattle.sheet_decode.proofs.Judges.{rises-stops, rises-goes-on, rise
 use borrow.Author.Needs.{needs}
 use Rattle.sheet_decode.proofs.judge.rises.Statement.{statement}
 use Rattle.sheet_decode.proofs.judge.rises.Tie as tie
-use Rattle.sheet_decode.proofs.judge.rises.Reads as reads
-use Rattle.sheet_decode.proofs.judge.rises.Lts as lts
 
 abbrev Inv-loop : tie.InvT-loop
 Inv-loop parent n v at₀ left₀ at left = (at < n) × (left ≤ n) × (risesIn left parent at ≡ risesIn n parent v)

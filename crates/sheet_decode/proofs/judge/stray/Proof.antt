@@ -4,11 +4,6 @@ use Rattle.sheet_decode.proofs.Judges.{stray-inner, stray-leaf}
 use borrow.Author.Needs.{needs}
 use Rattle.sheet_decode.proofs.judge.stray.Statement.{statement}
 use Rattle.sheet_decode.proofs.judge.stray.Tie as tie
-use Rattle.sheet_decode.proofs.judge.stray.Reads as reads
-use Rattle.sheet_decode.proofs.judge.stray.Lts as lts
-use Rattle.base_nodeset.proofs.NodeSet.difference.Reads as difference-reads
-use Rattle.base_nodeset.proofs.NodeSet.has.Reads as has-reads
-use Rattle.base_nodeset.proofs.NodeSet.is_empty.Reads as is-empty-reads
 
 has-requires : tie.Need-has-requires
 has-requires c κs = search needs

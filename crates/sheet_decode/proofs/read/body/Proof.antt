@@ -5,10 +5,6 @@ use Rattle.base_tables.proofs.Parents.{parents-held}
 use borrow.Author.Needs.{needs}
 use Rattle.sheet_decode.proofs.read.body.Statement.{statement}
 use Rattle.sheet_decode.proofs.read.body.Tie as tie
-use Rattle.sheet_decode.proofs.read.body.Reads as reads
-use Rattle.sheet_decode.proofs.read.body.Lts as lts
-use Rattle.sheet_decode.proofs.judge.judge.Reads as judge-reads
-use Rattle.sheet_decode.proofs.run.commands.Reads as commands-reads
 
 commands-requires : tie.Need-commands-requires
 commands-requires c κs = search needs

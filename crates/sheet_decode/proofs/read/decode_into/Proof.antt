@@ -4,10 +4,6 @@ use Rattle.sheet_decode.specs.Read.{Decodes}
 use borrow.Author.Needs.{needs}
 use Rattle.sheet_decode.proofs.read.decode_into.Statement.{statement}
 use Rattle.sheet_decode.proofs.read.decode_into.Tie as tie
-use Rattle.sheet_decode.proofs.read.decode_into.Reads as reads
-use Rattle.sheet_decode.proofs.read.decode_into.Lts as lts
-use Rattle.sheet_decode.proofs.read.body.Reads as body-reads
-use Rattle.sheet_decode.proofs.read.first_command.Reads as first-command-reads
 
 first-command-requires : tie.Need-first-command-requires
 first-command-requires c κs = search needs

@@ -8,8 +8,6 @@ use Rattle.sheet_decode.proofs.Whole.{header-none, header-unknown, head
 use borrow.Author.Needs.{needs}
 use Rattle.sheet_decode.proofs.read.first_command.Statement.{statement}
 use Rattle.sheet_decode.proofs.read.first_command.Tie as tie
-use Rattle.sheet_decode.proofs.read.first_command.Reads as reads
-use Rattle.sheet_decode.proofs.read.first_command.Lts as lts
 
 returns : tie.Need-returns
 returns c =

@@ -3,9 +3,6 @@ use Rattle.sheet_decode.proofs.Whole.{blank, reads-refused, reads-accep
 use borrow.Author.Needs.{needs}
 use Rattle.sheet_decode.proofs.read.read.Statement.{statement}
 use Rattle.sheet_decode.proofs.read.read.Tie as tie
-use Rattle.sheet_decode.proofs.read.read.Reads as reads
-use Rattle.sheet_decode.proofs.read.read.Lts as lts
-use Rattle.sheet_decode.proofs.read.decode_into.Reads as decode-into-reads
 
 slice-aggregate-decode-into : tie.Need-slice-aggregate-decode-into
 slice-aggregate-decode-into c = search needs

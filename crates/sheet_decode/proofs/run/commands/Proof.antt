@@ -9,10 +9,6 @@ use Rattle.sheet_decode.proofs.Runs.{goes-on, running-on, ran}
 use Rattle.sheet_decode.specs.Run.{Running}
 use Rattle.sheet_decode.proofs.run.commands.Statement.{statement}
 use Rattle.sheet_decode.proofs.run.commands.Tie as tie
-use Rattle.sheet_decode.proofs.run.commands.Reads as reads
-use Rattle.sheet_decode.proofs.run.commands.Lts as lts
-use Rattle.sheet_decode.proofs.turn.take.Reads as take-reads
-use Rattle.sheet_decode.proofs.run.stop.Reads as stop-reads
 
 abbrev Inv-loop : tie.InvT-loop
 Inv-loop sheet n parent₀ low₀ high₀ at₀ edges₀ parent low high at edges = Running n sheet parent low high at edges

@@ -1,8 +1,6 @@
 use borrow.Author.Needs.{needs}
 use Rattle.sheet_decode.proofs.run.stop.Statement.{statement}
 use Rattle.sheet_decode.proofs.run.stop.Tie as tie
-use Rattle.sheet_decode.proofs.run.stop.Reads as reads
-use Rattle.sheet_decode.proofs.run.stop.Lts as lts
 
 enum-known-turn : tie.Need-enum-known-turn
 enum-known-turn c = search needs

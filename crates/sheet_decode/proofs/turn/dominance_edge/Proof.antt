@@ -1,15 +1,15 @@
-use mathlib.Core.Path.{sym}
+-- 3, then 7 before 8; the set of roots at l with r put in.
+use mathlib.Core.Path.{_≡_, sym, _∙_}
+use mathlib.Core.Bool.{true, false}
 use native.Mathlib.Omega.{arith}
 use denote.Ref.{now}
 use borrow.Author.Tests.{le-leb, lt-leb}
-use Rattle.sheet_decode.proofs.Turns.{beyond-first, beyond-second, within, heads-set}
+use Rattle.base_tables.specs.Rows.{inRow}
+use Rattle.theory_format.proofs.Spelling.{within-beyond}
+use Rattle.sheet_decode.proofs.Turns.{beyond-first, beyond-second, heads-put}
 use borrow.Author.Needs.{needs}
 use Rattle.sheet_decode.proofs.turn.dominance_edge.Statement.{statement}
 use Rattle.sheet_decode.proofs.turn.dominance_edge.Tie as tie
-use Rattle.sheet_decode.proofs.turn.dominance_edge.Reads as reads
-use Rattle.sheet_decode.proofs.turn.dominance_edge.Lts as lts
-use Rattle.base_nodeset.proofs.NodeSet.has.Reads as has-reads
-use Rattle.base_nodeset.proofs.NodeSet.with.Reads as with-reads
 
 returns : tie.Need-returns
 returns c = (rw (beyond-first _ _ _ (c .if1 .taken)), tt)
@@ -17,48 +17,11 @@ returns c = (rw (beyond-first _ _ _ (c .if1 .taken)), tt)
 returns-2 : tie.Need-returns-2
 returns-2 c = (rw (beyond-second _ _ _ (c .if2 .taken)), tt)
 
-mul-t14 : tie.Need-mul-t14
-mul-t14 c = search needs
-
-slice-read-t16 : tie.Need-slice-read-t16
-slice-read-t16 c = search needs
-
-mul-t17 : tie.Need-mul-t17
-mul-t17 c = search needs
-
-slice-read-t19 : tie.Need-slice-read-t19
-slice-read-t19 c = search needs
+set-at-requires : tie.Need-set-at-requires
+set-at-requires c κs = (omega arith, omega arith)
 
 has-requires : tie.Need-has-requires
 has-requires c κs = search needs
-
-returns-3 : tie.Need-returns-3
-returns-3 c =
-    let a = c .before .before .before .before .before .before .before .before .args in
-    (rw (within (a .n) (a .l) (a .r) (omega arith) (omega arith), sym (c .before .has .ensures), c .if3 .taken), tt)
-
-returns-4 : tie.Need-returns-4
-returns-4 c =
-    let a = c .before .before .before .before .before .before .before .before .before .args in
-    (rw (within (a .n) (a .l) (a .r) (omega arith) (omega arith), sym (c .before .before .has .ensures), c .before .if3 .left, le-leb 255 (a .edges) (omega arith)), tt)
-
-with-requires : tie.Need-with-requires
-with-requires c κs = search needs
-
-mul-low : tie.Need-mul-low
-mul-low c = search needs
-
-slice-write-low : tie.Need-slice-write-low
-slice-write-low c = search needs
-
-mul-high : tie.Need-mul-high
-mul-high c = search needs
-
-slice-write-high : tie.Need-slice-write-high
-slice-write-high c = search needs
-
-add-t14 : tie.Need-add-t14
-add-t14 c = search needs
 
 same-length : tie.Need-same-length
 same-length c = search needs
@@ -66,12 +29,41 @@ same-length c = search needs
 same-length-2 : tie.Need-same-length-2
 same-length-2 c = search needs
 
+returns-3 : tie.Need-returns-3
+returns-3 c = let a = c .before .before .before .before .before .before .before .before .before .args in
+    let there : inRow (now (a .low)) (now (a .high)) (a .l) (a .r) ≡ true = sym (c .before .before .set-at .ensures (a .r)) ∙ sym (c .before .has .ensures) ∙ c .if3 .taken in
+    (rw (within-beyond (a .n) (a .l) (a .r) (omega arith) (omega arith), there), tt)
+
+same-length-3 : tie.Need-same-length-3
+same-length-3 c = search needs
+
+same-length-4 : tie.Need-same-length-4
+same-length-4 c = search needs
+
+returns-4 : tie.Need-returns-4
+returns-4 c = let a = c .before .before .before .before .before .before .before .before .before .before .args in
+    let not-there : inRow (now (a .low)) (now (a .high)) (a .l) (a .r) ≡ false = sym (c .before .before .before .set-at .ensures (a .r)) ∙ sym (c .before .before .has .ensures) ∙ c .before .if3 .left in
+    (rw (within-beyond (a .n) (a .l) (a .r) (omega arith) (omega arith), not-there, le-leb 255 (a .edges) (omega arith)), tt)
+
+with-requires : tie.Need-with-requires
+with-requires c κs = search needs
+
+put-at-requires : tie.Need-put-at-requires
+put-at-requires c κs = (omega arith, omega arith)
+
+add-t26 : tie.Need-add-t26
+add-t26 c = search needs
+
+same-length-5 : tie.Need-same-length-5
+same-length-5 c = search needs
+
+same-length-6 : tie.Need-same-length-6
+same-length-6 c = search needs
+
 returns-5 : tie.Need-returns-5
-returns-5 c =
-    let a = c .before .before .before .before .before .before .before .before .before .before .args in (
-      rw (within (a .n) (a .l) (a .r) (omega arith) (omega arith), sym (c .before .before .before .has .ensures), c .before .before .if3 .left, lt-leb 255 (a .edges) (omega arith)),
-      heads-set (now (a .low)) (now (a .high)) (a .l) (a .r) (c .with .result .low) (c .with .result .high) (omega arith) (omega arith) (c .with .ensures),
-    )
+returns-5 c = let a = c .before .before .before .before .before .before .before .before .before .before .before .before .before .before .before .before .before .before .args in
+    let not-there : inRow (now (a .low)) (now (a .high)) (a .l) (a .r) ≡ false = sym (c .before .before .before .before .before .before .before .before .before .before .before .set-at .ensures (a .r)) ∙ sym (c .before .before .before .before .before .before .before .before .before .before .has .ensures) ∙ c .before .before .before .before .before .before .before .before .before .if3 .left in
+    (rw (within-beyond (a .n) (a .l) (a .r) (omega arith) (omega arith), not-there, lt-leb 255 (a .edges) (omega arith)), heads-put _ _ _ _ _ _ _ _ (c .before .before .before .before .before .before .before .before .before .before .before .set-at .ensures) (c .before .before .before .before .before .with .ensures) (c .before .before .before .before .put-at .ensures))
 
 pub dominance-edge-spec : {M : Type 1} → statement M
 dominance-edge-spec =
@@ -79,19 +71,17 @@ dominance-edge-spec =
     (tie.spec
     returns
     returns-2
-    mul-t14
-    slice-read-t16
-    mul-t17
-    slice-read-t19
+    set-at-requires
     has-requires
-    returns-3
-    returns-4
-    with-requires
-    mul-low
-    slice-write-low
-    mul-high
-    slice-write-high
-    add-t14
     same-length
     same-length-2
+    returns-3
+    same-length-3
+    same-length-4
+    returns-4
+    with-requires
+    put-at-requires
+    add-t26
+    same-length-5
+    same-length-6
     returns-5)

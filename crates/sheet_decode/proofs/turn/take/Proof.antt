@@ -7,11 +7,6 @@ use Rattle.sheet_decode.proofs.Turns.{tree-turn, dominance-turn, end-tu
 use borrow.Author.Needs.{needs}
 use Rattle.sheet_decode.proofs.turn.take.Statement.{statement}
 use Rattle.sheet_decode.proofs.turn.take.Tie as tie
-use Rattle.sheet_decode.proofs.turn.take.Reads as reads
-use Rattle.sheet_decode.proofs.turn.take.Lts as lts
-use Rattle.sheet_decode.proofs.reader.command.Reads as command-reads
-use Rattle.sheet_decode.proofs.turn.dominance_edge.Reads as dominance-edge-reads
-use Rattle.sheet_decode.proofs.turn.tree_edge.Reads as tree-edge-reads
 
 command-requires : tie.Need-command-requires
 command-requires c κs = search needs

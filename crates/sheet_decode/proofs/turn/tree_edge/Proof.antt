@@ -3,12 +3,11 @@ use native.Mathlib.Omega.{arith}
 use denote.Ref.{now}
 use lib.ListN.{getD}
 use borrow.Author.Tests.{eq-eqb, ne-eqb}
-use Rattle.sheet_decode.proofs.Turns.{beyond-first, beyond-second, within}
+use Rattle.sheet_decode.proofs.Turns.{beyond-first, beyond-second}
+use Rattle.theory_format.proofs.Spelling.{within-beyond}
 use borrow.Author.Needs.{needs}
 use Rattle.sheet_decode.proofs.turn.tree_edge.Statement.{statement}
 use Rattle.sheet_decode.proofs.turn.tree_edge.Tie as tie
-use Rattle.sheet_decode.proofs.turn.tree_edge.Reads as reads
-use Rattle.sheet_decode.proofs.turn.tree_edge.Lts as lts
 
 returns : tie.Need-returns
 returns c = (rw (beyond-first _ _ _ (c .if1 .taken)), tt)
@@ -19,7 +18,7 @@ returns-2 c = (rw (beyond-second _ _ _ (c .if2 .taken)), tt)
 returns-3 : tie.Need-returns-3
 returns-3 c =
     let a = c .before .before .before .args in
-    (rw (within (a .n) (a .p) (a .c) (omega arith) (omega arith), eq-eqb (a .p) (a .c) (omega arith)), tt)
+    (rw (within-beyond (a .n) (a .p) (a .c) (omega arith) (omega arith), eq-eqb (a .p) (a .c) (omega arith)), tt)
 
 slice-read-if4 : tie.Need-slice-read-if4
 slice-read-if4 c = search needs
@@ -28,7 +27,7 @@ returns-4 : tie.Need-returns-4
 returns-4 c =
     let a = c .before .before .before .before .before .args in (
       rw (
-        within (a .n) (a .p) (a .c) (omega arith) (omega arith),
+        within-beyond (a .n) (a .p) (a .c) (omega arith) (omega arith),
         ne-eqb (a .p) (a .c) (omega arith),
         ne-eqb (getD (now (a .parent)) (a .c) 0) 255 (omega arith),
       ),
@@ -45,7 +44,7 @@ returns-5 : tie.Need-returns-5
 returns-5 c =
     let a = c .before .before .before .before .before .args in (
       rw (
-        within (a .n) (a .p) (a .c) (omega arith) (omega arith),
+        within-beyond (a .n) (a .p) (a .c) (omega arith) (omega arith),
         ne-eqb (a .p) (a .c) (omega arith),
         eq-eqb (getD (now (a .parent)) (a .c) 0) 255 (omega arith),
       ),

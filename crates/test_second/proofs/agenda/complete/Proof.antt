@@ -4,11 +4,6 @@ use lib.ListN.{length}
 use borrow.Author.Needs.{needs}
 use Rattle.test_second.proofs.agenda.complete.Statement.{statement}
 use Rattle.test_second.proofs.agenda.complete.Tie as tie
-use Rattle.test_second.proofs.agenda.complete.Reads as reads
-use Rattle.test_second.proofs.agenda.complete.Lts as lts
-use Rattle.test_second.proofs.build.everything.Reads as everything-reads
-use Rattle.test_second.proofs.agenda.divide.Reads as divide-reads
-use Rattle.test_second.proofs.agenda.hang.Reads as hang-reads
 
 abbrev Inv-loop : tie.InvT-loop
 Inv-loop nodes links n fragments fixed choices₀ others₀ placing₀ sets₀ hooks₀ entries₀ step₀ choices others placing sets hooks entries step = (length choices ≡ length choices₀) × (length others ≡ length others₀) × (length placing ≡ length placing₀) × (length sets ≡ 64) × (length hooks ≡ 64)

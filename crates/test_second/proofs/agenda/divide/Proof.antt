@@ -4,14 +4,6 @@ use lib.ListN.{length}
 use borrow.Author.Needs.{needs}
 use Rattle.test_second.proofs.agenda.divide.Statement.{statement}
 use Rattle.test_second.proofs.agenda.divide.Tie as tie
-use Rattle.test_second.proofs.agenda.divide.Reads as reads
-use Rattle.test_second.proofs.agenda.divide.Lts as lts
-use Rattle.test_second.proofs.free.component.Reads as component-reads
-use Rattle.test_second.proofs.free.hook.Reads as hook-reads
-use Rattle.test_second.proofs.agenda.leaf_or_top.Reads as leaf-or-top-reads
-use Rattle.test_second.proofs.set.without.Reads as without-reads
-use Rattle.test_second.proofs.table.put.Reads as put-reads
-use Rattle.test_second.proofs.words.put_word.Reads as put-word-reads
 
 abbrev Inv-loop : tie.InvT-loop
 Inv-loop nodes links n f set sets₀ hooks₀ entries rest₀ at₀ sets hooks rest at = (length sets ≡ length sets₀) × (length hooks ≡ length hooks₀)

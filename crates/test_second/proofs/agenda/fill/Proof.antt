@@ -4,11 +4,6 @@ use lib.ListN.{length}
 use borrow.Author.Needs.{needs}
 use Rattle.test_second.proofs.agenda.fill.Statement.{statement}
 use Rattle.test_second.proofs.agenda.fill.Tie as tie
-use Rattle.test_second.proofs.agenda.fill.Reads as reads
-use Rattle.test_second.proofs.agenda.fill.Lts as lts
-use Rattle.test_second.proofs.agenda.complete.Reads as complete-reads
-use Rattle.test_second.proofs.agenda.store.Reads as store-reads
-use Rattle.test_second.proofs.agenda.turn.Reads as turn-reads
 
 abbrev Inv-loop : tie.InvT-loop
 Inv-loop nodes links n fragments limit out₀ choices₀ others₀ placing₀ at₀ found₀ out choices others placing at found = (found ≤ limit) × (at ≤ 128 * found) × (length out ≡ length out₀) × (length choices ≡ 64) × (length others ≡ 64) × (length placing ≡ 128)

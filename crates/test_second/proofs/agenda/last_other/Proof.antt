@@ -2,9 +2,6 @@ use Prim.Native.Nat.{_≤_}
 use borrow.Author.Needs.{needs}
 use Rattle.test_second.proofs.agenda.last_other.Statement.{statement}
 use Rattle.test_second.proofs.agenda.last_other.Tie as tie
-use Rattle.test_second.proofs.agenda.last_other.Reads as reads
-use Rattle.test_second.proofs.agenda.last_other.Lts as lts
-use Rattle.test_second.proofs.table.byte.Reads as byte-reads
 
 abbrev Inv-loop : tie.InvT-loop
 Inv-loop others fragments step₀ step = step ≤ fragments

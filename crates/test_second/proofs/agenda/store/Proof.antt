@@ -4,10 +4,6 @@ use lib.ListN.{length}
 use borrow.Author.Needs.{needs}
 use Rattle.test_second.proofs.agenda.store.Statement.{statement}
 use Rattle.test_second.proofs.agenda.store.Tie as tie
-use Rattle.test_second.proofs.agenda.store.Reads as reads
-use Rattle.test_second.proofs.agenda.store.Lts as lts
-use Rattle.test_second.proofs.table.byte.Reads as byte-reads
-use Rattle.test_second.proofs.table.put.Reads as put-reads
 
 abbrev Inv-loop : tie.InvT-loop
 Inv-loop placing n out₀ at v₀ out v = (v ≤ n) × (length out ≡ length out₀)

@@ -2,9 +2,6 @@ use Prim.Native.Nat.{_-_}
 use borrow.Author.Needs.{needs}
 use Rattle.test_second.proofs.build.everything.Statement.{statement}
 use Rattle.test_second.proofs.build.everything.Tie as tie
-use Rattle.test_second.proofs.build.everything.Reads as reads
-use Rattle.test_second.proofs.build.everything.Lts as lts
-use Rattle.test_second.proofs.set.one.Reads as one-reads
 
 abbrev Inv-loop : tie.InvT-loop
 Inv-loop fragments all₀ f₀ all f = Unit {0}

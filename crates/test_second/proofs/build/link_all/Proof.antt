@@ -4,10 +4,6 @@ use lib.ListN.{length}
 use borrow.Author.Needs.{needs}
 use Rattle.test_second.proofs.build.link_all.Statement.{statement}
 use Rattle.test_second.proofs.build.link_all.Tie as tie
-use Rattle.test_second.proofs.build.link_all.Reads as reads
-use Rattle.test_second.proofs.build.link_all.Lts as lts
-use Rattle.test_second.proofs.build.link.Reads as link-reads
-use Rattle.test_second.proofs.table.byte.Reads as byte-reads
 
 abbrev Inv-loop : tie.InvT-loop
 Inv-loop nodes leaves roots edges links₀ i₀ links i = length links ≡ length links₀

@@ -4,11 +4,6 @@ use lib.ListN.{length}
 use borrow.Author.Needs.{needs}
 use Rattle.test_second.proofs.build.number_others.Statement.{statement}
 use Rattle.test_second.proofs.build.number_others.Tie as tie
-use Rattle.test_second.proofs.build.number_others.Reads as reads
-use Rattle.test_second.proofs.build.number_others.Lts as lts
-use Rattle.test_second.proofs.build.top.Reads as top-reads
-use Rattle.test_second.proofs.table.byte.Reads as byte-reads
-use Rattle.test_second.proofs.table.put.Reads as put-reads
 
 abbrev Inv-loop : tie.InvT-loop
 Inv-loop parent n nodes₀ v₀ nodes v = length nodes ≡ length nodes₀

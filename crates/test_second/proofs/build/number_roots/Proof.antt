@@ -4,9 +4,6 @@ use lib.ListN.{length}
 use borrow.Author.Needs.{needs}
 use Rattle.test_second.proofs.build.number_roots.Statement.{statement}
 use Rattle.test_second.proofs.build.number_roots.Tie as tie
-use Rattle.test_second.proofs.build.number_roots.Reads as reads
-use Rattle.test_second.proofs.build.number_roots.Lts as lts
-use Rattle.test_second.proofs.build.number.Reads as number-reads
 
 abbrev Inv-loop : tie.InvT-loop
 Inv-loop parent n nodes₀ next₀ v₀ nodes next v = (next ≤ v) × (v ≤ n) × (length nodes ≡ length nodes₀)

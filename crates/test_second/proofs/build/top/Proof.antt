@@ -2,9 +2,6 @@ use Prim.Native.Nat.{_-_}
 use borrow.Author.Needs.{needs}
 use Rattle.test_second.proofs.build.top.Statement.{statement}
 use Rattle.test_second.proofs.build.top.Tie as tie
-use Rattle.test_second.proofs.build.top.Reads as reads
-use Rattle.test_second.proofs.build.top.Lts as lts
-use Rattle.test_second.proofs.table.byte.Reads as byte-reads
 
 abbrev Inv-loop : tie.InvT-loop
 Inv-loop parent v at₀ -step₀ at -step = Unit {0}

@@ -2,10 +2,6 @@ use Prim.Native.Nat.{_-_}
 use borrow.Author.Needs.{needs}
 use Rattle.test_second.proofs.free.component.Statement.{statement}
 use Rattle.test_second.proofs.free.component.Tie as tie
-use Rattle.test_second.proofs.free.component.Reads as reads
-use Rattle.test_second.proofs.free.component.Lts as lts
-use Rattle.test_second.proofs.free.grow.Reads as grow-reads
-use Rattle.test_second.proofs.set.first.Reads as first-reads
 
 abbrev Inv-loop : tie.InvT-loop
 Inv-loop links within part₀ -turn₀ part -turn = Unit {0}

@@ -2,9 +2,6 @@ use Prim.Native.Nat.{_-_}
 use borrow.Author.Needs.{needs}
 use Rattle.test_second.proofs.free.grow.Statement.{statement}
 use Rattle.test_second.proofs.free.grow.Tie as tie
-use Rattle.test_second.proofs.free.grow.Reads as reads
-use Rattle.test_second.proofs.free.grow.Lts as lts
-use Rattle.test_second.proofs.free.around.Reads as around-reads
 
 abbrev Inv-loop : tie.InvT-loop
 Inv-loop links set within all₀ f₀ all f = Unit {0}

@@ -2,9 +2,6 @@ use Prim.Native.Nat.{_-_}
 use borrow.Author.Needs.{needs}
 use Rattle.test_second.proofs.free.hook.Statement.{statement}
 use Rattle.test_second.proofs.free.hook.Tie as tie
-use Rattle.test_second.proofs.free.hook.Reads as reads
-use Rattle.test_second.proofs.free.hook.Lts as lts
-use Rattle.test_second.proofs.free.enters.Reads as enters-reads
 
 abbrev Inv-loop : tie.InvT-loop
 Inv-loop nodes links n f part from v₀ v = Unit {0}

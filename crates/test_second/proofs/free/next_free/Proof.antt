@@ -2,9 +2,6 @@ use Prim.Native.Nat.{_-_}
 use borrow.Author.Needs.{needs}
 use Rattle.test_second.proofs.free.next_free.Statement.{statement}
 use Rattle.test_second.proofs.free.next_free.Tie as tie
-use Rattle.test_second.proofs.free.next_free.Reads as reads
-use Rattle.test_second.proofs.free.next_free.Lts as lts
-use Rattle.test_second.proofs.free.free.Reads as free-reads
 
 abbrev Inv-loop : tie.InvT-loop
 Inv-loop nodes links n set from f₀ f = Unit {0}

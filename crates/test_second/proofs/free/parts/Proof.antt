@@ -2,11 +2,6 @@ use Prim.Native.Nat.{_-_}
 use borrow.Author.Needs.{needs}
 use Rattle.test_second.proofs.free.parts.Statement.{statement}
 use Rattle.test_second.proofs.free.parts.Tie as tie
-use Rattle.test_second.proofs.free.parts.Reads as reads
-use Rattle.test_second.proofs.free.parts.Lts as lts
-use Rattle.test_second.proofs.free.component.Reads as component-reads
-use Rattle.test_second.proofs.free.forked.Reads as forked-reads
-use Rattle.test_second.proofs.set.without.Reads as without-reads
 
 abbrev Inv-loop : tie.InvT-loop
 Inv-loop nodes links n f whole rest₀ -turn₀ rest -turn = Unit {0}

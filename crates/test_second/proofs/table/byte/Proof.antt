@@ -7,9 +7,6 @@ use lib.ListN.{length, getD, List·getD-eq-default}
 use borrow.Author.Needs.{needs}
 use Rattle.test_second.proofs.table.byte.Statement.{statement}
 use Rattle.test_second.proofs.table.byte.Tie as tie
-use Rattle.test_second.proofs.table.byte.Reads as reads
-use Rattle.test_second.proofs.table.byte.Lts as lts
-use Rattle.test_second.proofs.table.wide.Reads as wide-reads
 
 -- within the list no default is used
 within : (l : List ℕ) (i d e : ℕ) → i < length l → getD l i d ≡ getD l i e

@@ -4,8 +4,6 @@ use lib.Seq.{set-out}
 use borrow.Author.Needs.{needs}
 use Rattle.test_second.proofs.table.put.Statement.{statement}
 use Rattle.test_second.proofs.table.put.Tie as tie
-use Rattle.test_second.proofs.table.put.Reads as reads
-use Rattle.test_second.proofs.table.put.Lts as lts
 
 returns : tie.Need-returns
 returns c = simp (le-ltb _ _ (c .if1 .taken))

@@ -3,9 +3,6 @@ use lib.Dec.{lit<}
 use borrow.Author.Needs.{needs}
 use Rattle.test_second.proofs.ways.times.Statement.{statement}
 use Rattle.test_second.proofs.ways.times.Tie as tie
-use Rattle.test_second.proofs.ways.times.Reads as reads
-use Rattle.test_second.proofs.ways.times.Lts as lts
-use Rattle.test_second.proofs.ways.least.Reads as least-reads
 
 mul-least : tie.Need-mul-least
 mul-least c = record { fits = lt-of-le-of-lt (mul-le-mul (c .pre .0) (c .pre .1)) (lit< tt) }

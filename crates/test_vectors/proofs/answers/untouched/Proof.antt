@@ -4,8 +4,6 @@ use lib.ListN.{length}
 use borrow.Author.Needs.{needs}
 use Rattle.test_vectors.proofs.answers.untouched.Statement.{statement}
 use Rattle.test_vectors.proofs.answers.untouched.Tie as tie
-use Rattle.test_vectors.proofs.answers.untouched.Reads as reads
-use Rattle.test_vectors.proofs.answers.untouched.Lts as lts
 
 abbrev Inv-loop : tie.InvT-loop
 Inv-loop out from i₀ i-end i = i-end ≡ length out

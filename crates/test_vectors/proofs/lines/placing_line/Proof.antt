@@ -4,11 +4,6 @@ use lib.ListN.{length}
 use borrow.Author.Needs.{needs}
 use Rattle.test_vectors.proofs.lines.placing_line.Statement.{statement}
 use Rattle.test_vectors.proofs.lines.placing_line.Tie as tie
-use Rattle.test_vectors.proofs.lines.placing_line.Reads as reads
-use Rattle.test_vectors.proofs.lines.placing_line.Lts as lts
-use Rattle.test_second.proofs.table.byte.Reads as byte-reads
-use Rattle.test_vectors.proofs.lines.decimal.Reads as decimal-reads
-use Rattle.test_vectors.proofs.lines.text.Reads as text-reads
 
 abbrev Inv-loop : tie.InvT-loop
 Inv-loop placing n v₀ t5 t6 t7 v = (length t5 ≡ 1) × (length t6 ≡ 1) × (length t7 ≡ 1)

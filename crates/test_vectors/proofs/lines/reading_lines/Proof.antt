@@ -2,14 +2,6 @@ use Prim.Native.Nat.{_-_}
 use borrow.Author.Needs.{needs}
 use Rattle.test_vectors.proofs.lines.reading_lines.Statement.{statement}
 use Rattle.test_vectors.proofs.lines.reading_lines.Tie as tie
-use Rattle.test_vectors.proofs.lines.reading_lines.Reads as reads
-use Rattle.test_vectors.proofs.lines.reading_lines.Lts as lts
-use Rattle.counter.proofs.Place.next.Reads as next-reads
-use Rattle.counter.proofs.Place.start.Reads as start-reads
-use Rattle.test_vectors.proofs.answers.plus.Reads as plus-reads
-use Rattle.test_vectors.proofs.lines.decimal.Reads as decimal-reads
-use Rattle.test_vectors.proofs.lines.placing_line.Reads as placing-line-reads
-use Rattle.test_vectors.proofs.unpack.nodes_of.Reads as nodes-of-reads
 
 abbrev Inv-loop : tie.InvT-loop
 Inv-loop sheet readings place₀ number₀ place number = Unit {0}

@@ -2,10 +2,6 @@ use Prim.Native.Nat.{_-_}
 use borrow.Author.Needs.{needs}
 use Rattle.test_vectors.proofs.solved.row_of.Statement.{statement}
 use Rattle.test_vectors.proofs.solved.row_of.Tie as tie
-use Rattle.test_vectors.proofs.solved.row_of.Reads as reads
-use Rattle.test_vectors.proofs.solved.row_of.Lts as lts
-use Rattle.test_vectors.proofs.answers.plus.Reads as plus-reads
-use Rattle.test_vectors.proofs.solved.same_row.Reads as same-row-reads
 
 abbrev Inv-loop : tie.InvT-loop
 Inv-loop table rows placing n start₀ row₀ start row = Unit {0}

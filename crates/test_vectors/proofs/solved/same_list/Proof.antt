@@ -4,12 +4,6 @@ use lib.ListN.{length}
 use borrow.Author.Needs.{needs}
 use Rattle.test_vectors.proofs.solved.same_list.Statement.{statement}
 use Rattle.test_vectors.proofs.solved.same_list.Tie as tie
-use Rattle.test_vectors.proofs.solved.same_list.Reads as reads
-use Rattle.test_vectors.proofs.solved.same_list.Lts as lts
-use Rattle.counter.proofs.Place.start.Reads as start-reads
-use Rattle.test_vectors.proofs.answers.plus.Reads as plus-reads
-use Rattle.test_vectors.proofs.solved.at_end.Reads as at-end-reads
-use Rattle.test_vectors.proofs.solved.step.Reads as step-reads
 
 abbrev Inv-loop : tie.InvT-loop
 Inv-loop sheet n table rows seen₀ wrong₀ place₀ -row₀ seen wrong place -row = length seen ≡ 2048

@@ -2,10 +2,6 @@ use Prim.Native.Nat.{_-_}
 use borrow.Author.Needs.{needs}
 use Rattle.test_vectors.proofs.solved.same_row.Statement.{statement}
 use Rattle.test_vectors.proofs.solved.same_row.Tie as tie
-use Rattle.test_vectors.proofs.solved.same_row.Reads as reads
-use Rattle.test_vectors.proofs.solved.same_row.Lts as lts
-use Rattle.test_second.proofs.table.byte.Reads as byte-reads
-use Rattle.test_vectors.proofs.answers.plus.Reads as plus-reads
 
 abbrev Inv-loop : tie.InvT-loop
 Inv-loop table start placing n v₀ v = Unit {0}

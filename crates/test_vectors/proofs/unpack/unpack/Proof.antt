@@ -4,10 +4,6 @@ use lib.ListN.{length}
 use borrow.Author.Needs.{needs}
 use Rattle.test_vectors.proofs.unpack.unpack.Statement.{statement}
 use Rattle.test_vectors.proofs.unpack.unpack.Tie as tie
-use Rattle.test_vectors.proofs.unpack.unpack.Reads as reads
-use Rattle.test_vectors.proofs.unpack.unpack.Lts as lts
-use Rattle.test_second.proofs.table.byte.Reads as byte-reads
-use Rattle.test_vectors.proofs.unpack.keep.Reads as keep-reads
 
 abbrev Inv-loop : tie.InvT-loop
 Inv-loop sheet parent₀ leaves₀ roots₀ number₀ at₀ parent leaves roots number at = (length parent ≡ length parent₀) × (length leaves ≡ length leaves₀) × (length roots ≡ length roots₀)
