@@ -51,15 +51,6 @@ module _ (g : Graph) (p : List ℕ) {low high : List ℕ} (rows : Rows (Below g 
 
 -- one choice
 
-pub none-left : (g : Graph) {r : Fork} → r ≡ None → Chosen g r → Unforked g
-none-left g e x = rw e at x
-
-pub choice-there : (g : Graph) {r : Fork} {v a b : ℕ} → r ≡ At v a b → Chosen g r → Choice g v a b
-choice-there g e x = rw e at x
-
-pub bounds-there : (n : ℕ) {r : Fork} {v a b : ℕ} → r ≡ At v a b → Bounded n r → (v < n) × (a < n) × (b < n)
-bounds-there n e x = rw e at x
-
 -- the nodes and the roots stay
 roots-adding : (g : Graph) (n : ℕ) (roots : NodeSet) (l r : ℕ) → RootsAre g n roots → RootsAre (adding g l r) n roots
 unfolding adding

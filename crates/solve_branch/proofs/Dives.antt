@@ -41,13 +41,6 @@ use Rattle.solve_branch.proofs.Tables.{decision-first, decision-second,
 use Rattle.solve_branch.proofs.Fitting.{reduction-at}
 use Rattle.solve_branch.proofs.Walks.{enters-stands, leaves-first, leaving-last, dropped-second}
 
--- what the choice found says
-pub chosen-none : (g : Graph) {r : Fork} → Chosen g r → r ≡ None → Unforked g
-chosen-none g x is = rw is at x
-
-pub chosen-choice : (g : Graph) {r : Fork} {v a b : ℕ} → Chosen g r → r ≡ At v a b → Choice g v a b
-chosen-choice g x is = rw is at x
-
 -- where the way has led
 pub stuck-not-to : {depth : ℕ} → Stuck ≡ To depth → ⊥
 stuck-not-to e = let z : _≡_ {A = ℕ} 1 0 = ap (tagOf the-type) e in omega arith

@@ -12,6 +12,7 @@ use borrow.Rule.Slice.PartMut.{midOf, postOf, putMid, mid-len, same-len-mid}
 use Rattle.base_finite.proofs.Laws.{by-bool}
 use Rattle.graph.specs.Graph.{Graph}
 use Rattle.theory_walk.specs.Walk.{Decision, graphAt}
+use Rattle.solve_reduce.specs.Reduced.{wide}
 use Rattle.solve_branch.specs.Decisions.{decisions, Kept}
 use Rattle.solve_branch.specs.Fits.{Reduction}
 use Rattle.solve_branch.specs.Levels.{level, Levels, Saved}
@@ -20,41 +21,41 @@ use Rattle.solve_branch.proofs.Dives.{kept-all, kept-set}
 
 -- the words of a level, lent and put back
 
-all-of-it : (depth : ℕ) → 257 * depth + 257 - 257 * depth ≡ 257
+all-of-it : (depth : ℕ) → wide * depth + wide - wide * depth ≡ wide
 all-of-it depth = omega arith
 
-pub level-part : (depth : ℕ) (words : List ℕ) → midOf (257 * depth) (257 * depth + 257 - 257 * depth) words ≡ level depth words
-level-part depth words = ap (λ (k : ℕ). take k (drop (257 * depth) words)) (all-of-it depth)
+pub level-part : (depth : ℕ) (words : List ℕ) → midOf (wide * depth) (wide * depth + wide - wide * depth) words ≡ level depth words
+level-part depth words = ap (λ (k : ℕ). take k (drop (wide * depth) words)) (all-of-it depth)
 
-module _ (depth : ℕ) (words new : List ℕ) (long : length words ≡ 6168) (some : depth < 24) (full : length new ≡ 257) where
+module _ (depth : ℕ) (words new : List ℕ) (long : length words ≡ 6168) (some : depth < 24) (full : length new ≡ wide) where
   abbrev put : List ℕ
-  put = putMid (257 * depth) (257 * depth + 257 - 257 * depth) words new
+  put = putMid (wide * depth) (wide * depth + wide - wide * depth) words new
 
-  front : length (take (257 * depth) words) ≡ 257 * depth
-  front = length-take-le (257 * depth) words (omega (arith, long))
+  front : length (take (wide * depth) words) ≡ wide * depth
+  front = length-take-le (wide * depth) words (omega (arith, long))
 
-  level-front : (rest : List ℕ) (i : ℕ) → i < depth → level i (take (257 * depth) words ++ rest) ≡ level i (take (257 * depth) words)
+  level-front : (rest : List ℕ) (i : ℕ) → i < depth → level i (take (wide * depth) words ++ rest) ≡ level i (take (wide * depth) words)
   level-front rest i h =
-      ap (λ (l : List ℕ). take 257 l) (drop-append-le (257 * i) (take (257 * depth) words) rest (omega (arith, front)))
-      ∙ take-append-le 257 (drop (257 * i) (take (257 * depth) words)) rest (omega (arith, front, length-drop (257 * i) (take (257 * depth) words)))
+      ap (λ (l : List ℕ). take wide l) (drop-append-le (wide * i) (take (wide * depth) words) rest (omega (arith, front)))
+      ∙ take-append-le wide (drop (wide * i) (take (wide * depth) words)) rest (omega (arith, front, length-drop (wide * i) (take (wide * depth) words)))
 
   put-long : length put ≡ 6168
   put-long =
-      same-len-mid (257 * depth) (257 * depth + 257 - 257 * depth) words new
-      (full ∙ sym (all-of-it depth) ∙ sym (mid-len (257 * depth) (257 * depth + 257) words (omega (arith, long))))
+      same-len-mid (wide * depth) (wide * depth + wide - wide * depth) words new
+      (full ∙ sym (all-of-it depth) ∙ sym (mid-len (wide * depth) (wide * depth + wide) words (omega (arith, long))))
       ∙ long
 
   put-before : (i : ℕ) → i < depth → level i put ≡ level i words
   put-before i h =
-      level-front (new ++ postOf (257 * depth) (257 * depth + 257 - 257 * depth) words) i h
-      ∙ sym (level-front (drop (257 * depth) words) i h)
-      ∙ ap (level i) (take-append-drop (257 * depth) words)
+      level-front (new ++ postOf (wide * depth) (wide * depth + wide - wide * depth) words) i h
+      ∙ sym (level-front (drop (wide * depth) words) i h)
+      ∙ ap (level i) (take-append-drop (wide * depth) words)
 
   put-there : level depth put ≡ new
   put-there =
-      let rest : List ℕ = postOf (257 * depth) (257 * depth + 257 - 257 * depth) words in
-      ap (λ (l : List ℕ). take 257 l) (drop-at (take (257 * depth) words) (new ++ rest) (257 * depth) front)
-      ∙ take-at new rest 257 full
+      let rest : List ℕ = postOf (wide * depth) (wide * depth + wide - wide * depth) words in
+      ap (λ (l : List ℕ). take wide l) (drop-at (take (wide * depth) words) (new ++ rest) (wide * depth) front)
+      ∙ take-at new rest wide full
 
 -- the levels before a depth
 
@@ -74,10 +75,10 @@ module _ {g : Graph} {uppers lowers saved-low saved-high : List ℕ} where
 
   pub saved-more : (depth : ℕ) (new-low new-high : List ℕ) → depth < 24 → Saved g uppers lowers saved-low saved-high depth
       → Reduction (graphAt g (decisions uppers lowers depth)) new-low new-high
-      → Saved g uppers lowers (putMid (257 * depth) (257 * depth + 257 - 257 * depth) saved-low new-low) (putMid (257 * depth) (257 * depth + 257 - 257 * depth) saved-high new-high) (depth + 1)
+      → Saved g uppers lowers (putMid (wide * depth) (wide * depth + wide - wide * depth) saved-low new-low) (putMid (wide * depth) (wide * depth + wide - wide * depth) saved-high new-high) (depth + 1)
   saved-more depth new-low new-high some s r =
-      let fl : length new-low ≡ 257 = r .wide .0 in
-      let fh : length new-high ≡ 257 = r .wide .1 in
+      let fl : length new-low ≡ wide = r .wide .0 in
+      let fh : length new-high ≡ wide = r .wide .1 in
       record {
         long = (put-long depth saved-low new-low (s .long .0) some fl, put-long depth saved-high new-high (s .long .1) some fh);
         saved = λ i a l.
@@ -88,7 +89,7 @@ module _ {g : Graph} {uppers lowers saved-low saved-high : List ℕ} where
             (λ (e : ltb i depth ≡ false).
             let is : depth ≡ i = omega (arith, ltb-false i depth e) in
             subst
-            (λ (j : ℕ). Reduction (graphAt g (decisions uppers lowers j)) (level j (putMid (257 * depth) (257 * depth + 257 - 257 * depth) saved-low new-low)) (level j (putMid (257 * depth) (257 * depth + 257 - 257 * depth) saved-high new-high)))
+            (λ (j : ℕ). Reduction (graphAt g (decisions uppers lowers j)) (level j (putMid (wide * depth) (wide * depth + wide - wide * depth) saved-low new-low)) (level j (putMid (wide * depth) (wide * depth + wide - wide * depth) saved-high new-high)))
             is
             (rw (put-there depth saved-low new-low (s .long .0) some fl, put-there depth saved-high new-high (s .long .1) some fh) r));
       }

@@ -91,10 +91,7 @@ module _ {g : Graph} {n : ℕ} {parents owners : List ℕ} {roots : NodeSet} {up
   pub found-room : {v a b : ℕ} → r ≡ At v a b → depth < n * n
   found-room is = subst (λ (m : ℕ). depth < m * m) (sym (f .owned .nodes)) (enters-room (f .owned .shaped) x (found-choice is))
 
-pub found-bounds : {r : Fork} {n v a b : ℕ} → r ≡ At v a b → Bounded n r → (v < n) × (a < n) × (b < n)
-found-bounds is w = rw is at w
-
--- at a reading: what `fork::settle` is given there, and what it writes
+-- at a reading: what `settle` is given there, and what it writes
 
 module _ {g : Graph} {n : ℕ} {parents owners : List ℕ} {roots : NodeSet} (f : Fits g n parents owners roots) {uppers lowers low high : List ℕ} {depth k : ℕ} (x : Stands g uppers lowers low high depth k) where
   pub stands-given : LooplessForm (graphAt g (decisions uppers lowers depth)) n low high

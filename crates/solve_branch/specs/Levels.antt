@@ -6,12 +6,13 @@ use mathlib.Core.List.{List}
 use lib.ListN.{length, take, drop}
 use Rattle.graph.specs.Graph.{Graph}
 use Rattle.theory_walk.specs.Walk.{graphAt}
+use Rattle.solve_reduce.specs.Reduced.{wide}
 use Rattle.solve_branch.specs.Decisions.{decisions}
 use Rattle.solve_branch.specs.Fits.{Reduction}
 
--- 257 words a level
+-- one level
 abbrev pub level : ℕ → List ℕ → List ℕ
-level i words = take 257 (drop (257 * i) words)
+level i words = take wide (drop (wide * i) words)
 
 -- 24 levels
 abbrev pub Levels : List ℕ → List ℕ → Type 0

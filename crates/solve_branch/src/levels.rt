@@ -1,4 +1,5 @@
 // The reduced forms at the first levels of decisions, saved where the walk goes down and taken back where it turns.
+use solve_reduce::reduced::WIDE;
 use solve_reduce::reduced::copy;
 ghost use mathlib.Core.List.{List};
 ghost use Prim.Native.Nat.{ℕ, _+_, _≤_, _<_};
@@ -34,8 +35,8 @@ pub fn save(
         ⌝ }
 {
     if depth < LEVELS {
-        let from = 257 * depth;
-        let to = from + 257;
+        let from = WIDE * depth;
+        let to = from + WIDE;
         copy(
             low,
             high,
@@ -60,7 +61,7 @@ pub fn restore(
         Reduced g n (now (low .exit)) (now (high .exit)))
         ⌝ }
 {
-    let from = 257 * depth;
-    let to = from + 257;
+    let from = WIDE * depth;
+    let to = from + WIDE;
     copy(&saved_low[from..to], &saved_high[from..to], n, low, high);
 }

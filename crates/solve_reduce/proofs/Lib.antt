@@ -4,3 +4,4 @@ pub mod Staying
 pub mod Choices
 pub mod Settling
 pub mod Tables
+pub mod Found

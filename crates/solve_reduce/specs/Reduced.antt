@@ -35,9 +35,13 @@ several p = ltb (second p) 128
 abbrev pub Forks : ℕ → List ℕ → List ℕ → NodeSet → Type 0
 Forks n low high s = (v : ℕ) → v < n → mem s v ≡ several (λ (l : ℕ). inRow low high (n + v) l)
 
+-- the sets of a graph with 128 nodes
+abbrev pub wide : ℕ
+wide = 257
+
 -- the tables have room for 128 nodes
 abbrev pub Wide : List ℕ → List ℕ → Type 0
-Wide low high = (length low ≡ 257) × (length high ≡ 257)
+Wide low high = (length low ≡ wide) × (length high ≡ wide)
 
 -- In the first n sets the nodes under each node, in the next n the leaves whose edges to it stay, in the last the nodes that
 -- several of them have edges to. With a cycle in the graph what stays is of no use, and nothing is said of it.

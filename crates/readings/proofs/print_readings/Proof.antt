@@ -7,11 +7,12 @@ use lib.ListN.{length, length-replicate}
 use lib.Seq.{length-take-le}
 use Rattle.graph.specs.Order.{limit}
 use Rattle.solve_branch.specs.Fits.{Walkable}
-use Rattle.solve_branch.specs.Levels.{Saved}
+use Rattle.solve_branch.specs.Levels.{Saved, Levels}
 use Rattle.solve_branch.specs.States.{Stands}
 use Rattle.solve_walk.proofs.Walked.{walked-of}
 use Rattle.solve_numbered.proofs.Numbers.{room}
 use borrow.Author.Needs.{needs}
+use Rattle.solve_reduce.specs.Reduced.{Wide}
 use Rattle.readings.proofs.print_readings.Statement.{statement}
 use Rattle.readings.proofs.print_readings.Tie as tie
 
@@ -22,11 +23,11 @@ fewer-left more false passed last e h on f = rw e (omega arith)
 
 abbrev Inv-loop : tie.InvT-loop
 Inv-loop parent owner n leaves roots base-low base-high low₀ high₀ saved-low₀ saved-high₀ uppers₀ lowers₀ depth₀ out₀ passed₀ more₀ low high saved-low saved-high uppers lowers depth out passed more =
-    ((length low ≡ 257) × (length high ≡ 257))
+    Wide low high
     × ((length uppers ≡ 16384) × (length lowers ≡ 16384))
     × (length out ≡ 262144)
     × (more ≡ true → (passed < limit) × ((s : Walkable n parent owner leaves roots base-low base-high) → Stands (s .graph) uppers lowers low high depth passed × Saved (s .graph) uppers lowers saved-low saved-high depth))
-    × ((length saved-low ≡ 6168) × (length saved-high ≡ 6168))
+    × Levels saved-low saved-high
 
 abbrev μ-loop : tie.MeasureT-loop
 μ-loop parent owner n leaves roots base-low base-high low₀ high₀ saved-low₀ saved-high₀ uppers₀ lowers₀ depth₀ out₀ passed₀ more₀ low high saved-low saved-high uppers lowers depth out passed more = cond more (limit - passed) 0

@@ -1,7 +1,8 @@
 -- The choice, the half, the edge.
 use mathlib.Core.Path.{sym}
 use mathlib.Core.Bool.{true≢false}
-use Rattle.check_placing.proofs.Guides.{none-left, choice-there, bounds-there, turned, ended}
+use Rattle.solve_reduce.proofs.Found.{chosen-none, chosen-choice, found-bounds}
+use Rattle.check_placing.proofs.Guides.{turned, ended}
 use borrow.Author.Needs.{needs}
 use Rattle.check_placing.proofs.guide.turn.Statement.{statement}
 use Rattle.check_placing.proofs.guide.turn.Tie as tie
@@ -22,11 +23,11 @@ same-length-2 : tie.Need-same-length-2
 same-length-2 c = search needs
 
 returns : tie.Need-returns
-returns c = λ g p k st. (λ e. absurd (true≢false (sym e)), λ e. ended st (none-left (st .graph) (c .enum-told .given .1) (c .before .before .choose .ensures .1 (st .graph) (st .given))))
+returns c = λ g p k st. (λ e. absurd (true≢false (sym e)), λ e. ended st (chosen-none (st .graph) (c .before .before .choose .ensures .1 (st .graph) (st .given)) (c .enum-told .given .1)))
 
 half-requires : tie.Need-half-requires
 half-requires c κs =
-    let b = bounds-there (c .before .before .before .before .before .before .before .before .before .before .before .args .n) (c .before .v .given .1) (c .before .before .before .choose .ensures .0) in
+    let b = found-bounds (c .before .v .given .1) (c .before .before .before .choose .ensures .0) in
     (c .before .before .before .before .before .before .before .before .before .before .before .pre .0, (search needs, search needs), b .1, b .2)
 
 add-requires : tie.Need-add-requires
@@ -42,7 +43,7 @@ returns-2 : tie.Need-returns-2
 returns-2 c =
     let next = c .before .before .before .before .before .before .before .half in
     λ g p k st.
-    let pick = choice-there (st .graph) (c .before .before .before .before .before .before .before .before .before .v .given .1) (c .before .before .before .before .before .before .before .before .before .before .before .choose .ensures .1 (st .graph) (st .given)) in (
+    let pick = chosen-choice (st .graph) (c .before .before .before .before .before .before .before .before .before .before .before .choose .ensures .1 (st .graph) (st .given)) (c .before .before .before .before .before .before .before .before .before .v .given .1) in (
       λ e. turned st _ _ _ (next .result) pick (next .ensures .1 (st .graph) p _ (st .given .shaped) (st .tree) (st .under) pick (st .solved)) (c .before .before .before .before .add .ensures),
       λ e. absurd (true≢false e),
     )

@@ -11,9 +11,9 @@ use Rattle.solve_branch.specs.Decisions.{Kept}
 use Rattle.solve_branch.specs.Fits.{Owned}
 use Rattle.solve_branch.specs.States.{Diving}
 use Rattle.solve_branch.specs.Levels.{Levels, Saved}
-use Rattle.solve_branch.proofs.Walks.{found-bounds}
+use Rattle.solve_reduce.proofs.Found.{found-bounds, chosen-none, chosen-choice}
 use Rattle.solve_branch.proofs.Fitting.{owned-in}
-use Rattle.solve_branch.proofs.Dives.{loopless, diving-given, diving-stands, diving-first, kept-all, kept-set, chosen-none, chosen-choice, stuck-not-to, same-depth, reached-there}
+use Rattle.solve_branch.proofs.Dives.{loopless, diving-given, diving-stands, diving-first, kept-all, kept-set, stuck-not-to, same-depth, reached-there}
 use Rattle.solve_branch.proofs.Saved.{saved-fewer, saved-there, saved-set}
 use borrow.Author.Needs.{needs}
 use Rattle.solve_branch.proofs.dive.dive.Statement.{statement}

@@ -9,7 +9,8 @@ use Rattle.solve_reduce.specs.Reduced.{Wide}
 use Rattle.solve_branch.specs.Fits.{Fits}
 use Rattle.solve_branch.specs.States.{Enters}
 use Rattle.solve_branch.specs.Levels.{Levels, Saved}
-use Rattle.solve_branch.proofs.Walks.{found-none, found-choice, found-room, found-bounds}
+use Rattle.solve_branch.proofs.Walks.{found-none, found-choice, found-room}
+use Rattle.solve_reduce.proofs.Found.{found-bounds}
 use Rattle.solve_branch.proofs.Fitting.{owners-table}
 use Rattle.solve_branch.proofs.Saved.{saved-kept}
 use borrow.Author.Needs.{needs}
