@@ -14,7 +14,7 @@ use Rattle.graph.specs.Graph.{Edge, entered, left, single, parent, none}
 use Rattle.theory_edges.proofs.Edges.{parent-among, parent-unentered, parent-only, left-of-among, left-found}
 use Rattle.theory_edges.specs.Edges.{Within}
 use Rattle.base_tables.specs.Tables.{Holds}
-use Rattle.base_tables.specs.Trees.{Parents, innerIn, rootIn}
+use Rattle.base_tables.specs.Trees.{Parents, innerIn, nodeIn, rootIn}
 
 -- a parent table shows which nodes have one
 pub parent-tells : (n : ℕ) (t : List Edge) (v : ℕ) → n ≤ 128 → Within n t → entered t v ≡ not (eqb (parent t v) none)
@@ -38,7 +38,7 @@ module _ (n : ℕ) (t : List Edge) (parents : List ℕ) (few : n ≤ 128) (withi
       (λ (e : entered t v ≡ false). absurd (some (parent-is v (omega arith) ∙ parent-unentered t v e)))
 
   pub root-held : (v : ℕ) → rootIn n parents v ≡ (ltb v n && not (entered t v))
-  unfolding rootIn
+  unfolding nodeIn
   root-held v =
       by-bool (ltb v n)
       (λ (e : ltb v n ≡ true). rw (e, parentless v (ltb-true v n e)))
@@ -78,17 +78,17 @@ pub inner-more : (v : ℕ) (parents : List ℕ) (u : ℕ) → innerIn (v + 1) pa
 unfolding innerIn
 inner-more v parents u = any-more v (λ c. eqb (getD parents c 0) u)
 
-pub roots-none : (parents : List ℕ) (u : ℕ) → rootIn 0 parents u ≡ false
-unfolding rootIn
-roots-none parents u = rw (le-ltb u 0 (omega arith))
+pub nodes-none : (table : List ℕ) (x u : ℕ) → nodeIn 0 table x u ≡ false
+unfolding nodeIn
+nodes-none table x u = rw (le-ltb u 0 (omega arith))
 
-pub roots-more : (v : ℕ) (parents : List ℕ) (u : ℕ) → rootIn (v + 1) parents u ≡ (eqb u v && eqb (getD parents v 0) none || rootIn v parents u)
-unfolding rootIn
-roots-more v parents u =
+pub nodes-more : (v : ℕ) (table : List ℕ) (x u : ℕ) → nodeIn (v + 1) table x u ≡ (eqb u v && eqb (getD table v 0) x || nodeIn v table x u)
+unfolding nodeIn
+nodes-more v table x u =
     by-bool (eqb u v)
     (λ (e : eqb u v ≡ true).
     let q : u ≡ v = eqb-true u v e in
-    rw (e, q, lt-ltb v (v + 1) (omega arith), le-ltb v v (omega arith)) (by-bool (eqb (getD parents v 0) none) (λ f. rw f) (λ f. rw f)))
+    rw (e, q, lt-ltb v (v + 1) (omega arith), le-ltb v v (omega arith)) (by-bool (eqb (getD table v 0) x) (λ f. rw f) (λ f. rw f)))
     (λ (e : eqb u v ≡ false).
     let other : u ≡ v → ⊥ = eqb-false u v e in
     rw e

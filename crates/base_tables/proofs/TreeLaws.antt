@@ -15,7 +15,7 @@ use Rattle.graph.specs.Order.{adding}
 use Rattle.theory_edges.proofs.Edges.{parent-among}
 use Rattle.theory_forest.specs.Shape.{Shaped}
 use Rattle.theory_edges.specs.Edges.{Within}
-use Rattle.base_tables.specs.Trees.{Parents, InnerSet, RootSet, innerIn, rootIn, TreeOf, topIn}
+use Rattle.base_tables.specs.Trees.{Parents, InnerSet, RootSet, innerIn, nodeIn, rootIn, TreeOf, topIn}
 use Rattle.base_tables.proofs.Parents as held
 use Rattle.base_tables.proofs.Parents.{parents-held}
 use Rattle.base_tables.specs.Tables.{Tables}
@@ -33,7 +33,7 @@ unfolding adding
 tree-adding g n parents l r t = record { nodes = t .nodes; parent-is = t .parent-is }
 
 pub roots-within : (n : ℕ) (parents : List ℕ) (roots : NodeSet) → RootSet n parents roots → (v : ℕ) → mem roots v ≡ true → v < n
-unfolding rootIn
+unfolding nodeIn
 roots-within n parents roots is v m =
     ltb-true v n (and-both (ltb v n) (eqb (getD parents v 0) none) (sym (is v) ∙ m) .0)
 

@@ -8,7 +8,6 @@ use lib.Dec.{eqb}
 use lib.ListN.{length, getD}
 use Rattle.base_nodeset.specs.Set.{member, mem}
 use Rattle.base_nodeset.specs.declared.NodeSet.{NodeSet}
-use Rattle.graph.specs.Graph as spec
 
 -- a table of rows has 128
 abbrev pub Long : List ℕ → List ℕ → Type 0

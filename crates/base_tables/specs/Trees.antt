@@ -42,9 +42,13 @@ tiedIn parents u v = eqb (getD parents v 0) u || eqb (getD parents u 0) v
 unfoldable pub innerIn : ℕ → List ℕ → ℕ → Bool
 innerIn n parents v = any n (λ c. eqb (getD parents c 0) v)
 
+-- v is a node whose entry in the table is x
+unfoldable pub nodeIn : ℕ → List ℕ → ℕ → ℕ → Bool
+nodeIn n table x v = ltb v n && eqb (getD table v 0) x
+
 -- v is a node without a parent
-unfoldable pub rootIn : ℕ → List ℕ → ℕ → Bool
-rootIn n parents v = ltb v n && eqb (getD parents v 0) none
+abbrev pub rootIn : ℕ → List ℕ → ℕ → Bool
+rootIn n parents v = nodeIn n parents none v
 
 abbrev pub WithParent : NodeSet → ℕ → NodeSet → Type 0
 WithParent s above r = (v : ℕ) → v < 128 → mem r v ≡ (mem s v || eqb above v)
@@ -52,8 +56,11 @@ WithParent s above r = (v : ℕ) → v < 128 → mem r v ≡ (mem s v || eqb abo
 abbrev pub InnerSet : ℕ → List ℕ → NodeSet → Type 0
 InnerSet n parents r = (v : ℕ) → v < 128 → mem r v ≡ innerIn n parents v
 
-abbrev pub WithRoot : NodeSet → ℕ → ℕ → NodeSet → Type 0
-WithRoot s v above r = (u : ℕ) → mem r u ≡ (eqb u v && eqb above none || mem s u)
+abbrev pub WithNode : NodeSet → ℕ → ℕ → ℕ → NodeSet → Type 0
+WithNode s v entry x r = (u : ℕ) → mem r u ≡ (eqb u v && eqb entry x || mem s u)
+
+abbrev pub NodesWith : ℕ → List ℕ → ℕ → NodeSet → Type 0
+NodesWith n table x r = (v : ℕ) → mem r v ≡ nodeIn n table x v
 
 abbrev pub RootSet : ℕ → List ℕ → NodeSet → Type 0
-RootSet n parents r = (v : ℕ) → mem r v ≡ rootIn n parents v
+RootSet n parents r = NodesWith n parents none r

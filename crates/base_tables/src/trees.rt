@@ -8,7 +8,7 @@ ghost use lib.ListN.{length};
 ghost use Rattle.base_nodeset.specs.Set.{mem};
 ghost use Rattle.graph.specs.Graph.{Graph, leaf};
 ghost use Rattle.theory_forest.specs.Shape.{Shaped};
-ghost use Rattle.base_tables.specs.Trees.{Parents, InnerSet, RootSet, WithParent, WithRoot, TreeOf, topIn, Filled, tiedIn};
+ghost use Rattle.base_tables.specs.Trees.{Parents, InnerSet, RootSet, NodesWith, WithParent, WithNode, TreeOf, topIn, Filled, tiedIn};
 
 // The root of v's fragment: up to a node without a parent.
 pub fn own(parent: &[u8], n: usize, v: usize) -> usize
@@ -71,11 +71,23 @@ pub fn inner_nodes(parent: &[u8], n: usize) -> NodeSet
     set
 }
 
-fn with_root(set: NodeSet, v: usize, above: u8) -> NodeSet
+fn with_node(set: NodeSet, v: usize, entry: u8, x: u8) -> NodeSet
     requires { ⌜ v < 128 ⌝ }
-    ensures { λ r. ⌜ WithRoot set v above r ⌝ }
+    ensures { λ r. ⌜ WithNode set v entry x r ⌝ }
 {
-    if above == NONE { set.with(v) } else { set }
+    if entry == x { set.with(v) } else { set }
+}
+
+// The nodes whose entry in the table is x.
+pub fn nodes_with(table: &[u8], n: usize, x: u8) -> NodeSet
+    requires { ⌜ (n ≤ 128) × (n ≤ length (now table)) ⌝ }
+    ensures { λ r. ⌜ NodesWith n (now (table .entry)) x r ⌝ }
+{
+    let mut set = NodeSet::empty();
+    for v in 0..n {
+        set = with_node(set, v, table[v], x);
+    }
+    set
 }
 
 // The nodes without a parent.
@@ -83,11 +95,7 @@ pub fn root_nodes(parent: &[u8], n: usize) -> NodeSet
     requires { ⌜ Parents n (now parent) ⌝ }
     ensures { λ r. ⌜ RootSet n (now (parent .entry)) r ⌝ }
 {
-    let mut set = NodeSet::empty();
-    for v in 0..n {
-        set = with_root(set, v, parent[v]);
-    }
-    set
+    nodes_with(parent, n, NONE)
 }
 
 // The numbers below n.

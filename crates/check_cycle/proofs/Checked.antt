@@ -19,7 +19,7 @@ use Rattle.base_finite.proofs.Counting.{count-one, all-apart}
 use Rattle.theory_edges.proofs.Pigeonhole.{pigeonhole}
 use Rattle.theory_forest.proofs.Shape.{well-formed-shaped}
 use Rattle.theory_forest.proofs.Fragments.{leaf-not-root}
-use Rattle.theory_refutes.proofs.Cycles.{SameEdge, same-edge, Joined, joined-cases, CycleFacts, cycle-facts, DominanceAt, dominance-at, hypernormal-leaf}
+use Rattle.theory_refutes.proofs.Cycles.{SameEdge, same-edge, Joined, joined-cases, joined-below, CycleFacts, cycle-facts, DominanceAt, dominance-at, hypernormal-leaf}
 use Rattle.base_tables.specs.Rows.{inRow}
 use Rattle.base_tables.specs.Tables.{Tables}
 use Rattle.base_tables.specs.Trees.{tiedIn}
@@ -94,13 +94,6 @@ module _ (g : Graph) (n : ℕ) (parents low high : List ℕ) (edges : ℕ) (t : 
   unfolding joinedIn joined tiedIn dominanceJoins
   joined-held k u v hu hv = rw (tree-held u v hu hv, tree-held v u hv hu, t .holds .heads-are u v, t .holds .heads-are v u)
 
-  -- what is joined are nodes
-  joined-below : (k u v : ℕ) → Joined g k u v → u < g .nodes
-  joined-below k u v (inl (e, inl d)) = t .holds .tree-within u v d .0
-  joined-below k u v (inl (e, inr d)) = t .holds .tree-within v u d .1
-  joined-below k u v (inr (e, inl d)) = t .holds .dominance-within u v d .0
-  joined-below k u v (inr (e, inr d)) = t .holds .dominance-within v u d .1
-
   edge-leaf : (u v : ℕ) → DominanceEdge g u v → leaf g u ≡ true
   edge-leaf u v d = t .well-formed .leaf-to-root u v d .0
 
@@ -158,7 +151,7 @@ module _ (g : Graph) (n : ℕ) (parents low high : List ℕ) (edges : ℕ) (t : 
       facts = cycle-facts g bs c
 
       ends-below : NodesBelow (g .nodes) bs
-      ends-below i l = joined-below (kind bs i) (node bs i) (next bs i) (facts .joins i l)
+      ends-below i l = joined-below g (well-formed-shaped (t .well-formed)) (kind bs i) (node bs i) (next bs i) (facts .joins i l)
 
       not-longer : pairs bs ≤ g .nodes
       not-longer =

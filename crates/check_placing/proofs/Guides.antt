@@ -26,9 +26,6 @@ use Rattle.base_tables.specs.Rows.{inRow, Rows}
 use Rattle.solve_closure.proofs.Laws.{rows-map}
 use Rattle.base_tables.specs.Trees.{TreeOf}
 use Rattle.solve_reduce.specs.Reduced.{Ends, RootsAre, Reduced}
-use Rattle.solve_reduce.specs.Chosen.{Bounded, Chosen}
-use Rattle.solve_reduce.specs.declared.choose.Fork.{Fork}
-use Rattle.solve_reduce.specs.declared.choose.Fork.the-variants.{None, At}
 use Rattle.base_tables.proofs.TreeLaws.{tree-adding}
 use Rattle.check_placing.specs.Guide.{Into, HalfOf, Standing, Arrived}
 use Rattle.check_placing.specs.declared.guide.Edge.{Edge}

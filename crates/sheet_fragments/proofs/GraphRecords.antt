@@ -24,9 +24,9 @@ use Rattle.theory_edges.proofs.Ends.{root-below, leaf-below}
 use Rattle.theory_forest.specs.Shape.{Shaped}
 use Rattle.theory_forest.proofs.Shape.{well-formed-shaped}
 use Rattle.theory_forest.proofs.Fragments.{root-leaf, leafOf-parts}
-use Rattle.base_tables.specs.Trees.{InnerSet, RootSet, TreeOf, topIn, Filled as Owned}
+use Rattle.base_tables.specs.Trees.{InnerSet, RootSet, TreeOf, topIn, Filled as Owned, nodeIn}
 use Rattle.base_tables.proofs.TreeLaws.{tree-of, roots-are, inner-is, own-is}
-use Rattle.sheet_fragments.specs.Owner.{nodeIn, leafIn, recordIn, recordsIn, recordsBelow}
+use Rattle.sheet_fragments.specs.Owner.{leafIn, recordIn, recordsIn, recordsBelow}
 use Rattle.sheet_fragments.specs.Table.{flat, Tabled, TableIn}
 use Rattle.sheet_fragments.specs.declared.Table.the-variants.{Filled, Refused}
 use Rattle.base_finite.proofs.Runs.{length-spread}

@@ -2,44 +2,22 @@
 use Prim.Native.Nat.{ℕ, _+_, _*_}
 use mathlib.Core.Path.{_≡_, refl, _∙_}
 use mathlib.Core.List.{List, [], _∷_, _++_}
-use mathlib.Core.Bool.{true, false, _&&_, _||_}
+use mathlib.Core.Bool.{true, false}
 use native.Mathlib.Omega.{arith}
-use lib.Dec.{eqb, ltb}
-use lib.ListN.{length, getD, length-append}
+use lib.ListN.{length, length-append}
 use lib.Seq.{sets}
-use borrow.Author.Tests.{eqb-true, eqb-false, lt-ltb, le-ltb, ltb-true, ltb-false}
 use Rattle.base_finite.specs.Below.{count, least, spread}
-use Rattle.base_finite.proofs.Laws.{by-bool, spread-more, count-ext}
+use Rattle.base_finite.proofs.Laws.{spread-more, count-ext}
 use Rattle.base_nodeset.specs.Set.{mem, Difference}
 use Rattle.base_nodeset.specs.declared.NodeSet.{NodeSet}
 use Rattle.base_finite.proofs.Bounds.{least-ext}
-use Rattle.sheet_fragments.specs.Owner.{nodeIn, NodesOf, leafIn, recordIn, recordsBelow}
+use Rattle.base_tables.specs.Trees.{NodesWith}
+use Rattle.sheet_fragments.specs.Owner.{leafIn, recordIn, recordsBelow}
 use Rattle.base_finite.proofs.Runs.{sets-append, length-spread}
-
--- one node more
-
-pub nodes-none : (owner : List ℕ) (r u : ℕ) → nodeIn 0 owner r u ≡ false
-unfolding nodeIn
-nodes-none owner r u = rw (le-ltb u 0 (omega arith))
-
-pub nodes-more : (v : ℕ) (owner : List ℕ) (r u : ℕ) → nodeIn (v + 1) owner r u ≡ (eqb u v && eqb (getD owner v 0) r || nodeIn v owner r u)
-unfolding nodeIn
-nodes-more v owner r u =
-    by-bool (eqb u v)
-    (λ (e : eqb u v ≡ true).
-    let q : u ≡ v = eqb-true u v e in
-    rw (e, q, lt-ltb v (v + 1) (omega arith), le-ltb v v (omega arith)) (by-bool (eqb (getD owner v 0) r) (λ f. rw f) (λ f. rw f)))
-    (λ (e : eqb u v ≡ false).
-    let other : u ≡ v → ⊥ = eqb-false u v e in
-    rw e
-    (by-bool (ltb u v)
-    (λ (f : ltb u v ≡ true). rw (f, lt-ltb u (v + 1) (omega (arith, ltb-true u v f))))
-    (λ (f : ltb u v ≡ false).
-    rw (f, le-ltb u (v + 1) (omega (arith, ltb-false u v f))))))
 
 -- one record more
 
-pub leaves-are : (n : ℕ) (owner : List ℕ) (inner nodes leaves : NodeSet) (r : ℕ) → NodesOf n owner r nodes → Difference nodes inner leaves → (v : ℕ) → mem leaves v ≡ leafIn n owner inner r v
+pub leaves-are : (n : ℕ) (owner : List ℕ) (inner nodes leaves : NodeSet) (r : ℕ) → NodesWith n owner r nodes → Difference nodes inner leaves → (v : ℕ) → mem leaves v ≡ leafIn n owner inner r v
 unfolding leafIn
 leaves-are n owner inner nodes leaves r is d v = d v ∙ rw (is v)
 
@@ -53,7 +31,7 @@ module _ (n : ℕ) (owner : List ℕ) (inner roots : NodeSet) where
   record-some r e = rw e
 
   -- the record is that of the set of leaves
-  pub record-of : (nodes leaves : NodeSet) (r : ℕ) → mem roots r ≡ true → NodesOf n owner r nodes → Difference nodes inner leaves
+  pub record-of : (nodes leaves : NodeSet) (r : ℕ) → mem roots r ≡ true → NodesWith n owner r nodes → Difference nodes inner leaves
       → recordIn n owner inner roots r ≡ r ∷ least 128 (mem leaves) ∷ count 128 (mem leaves) ∷ []
   record-of nodes leaves r e is d =
       let same = leaves-are n owner inner nodes leaves r is d in

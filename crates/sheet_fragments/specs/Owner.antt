@@ -1,23 +1,11 @@
 -- The records of the table, as read off the parents and the sets of inner nodes and of roots.
 use Prim.Native.Nat.{ℕ}
-use mathlib.Core.Path.{_≡_}
 use mathlib.Core.List.{List, [], _∷_}
-use mathlib.Core.Bool.{Bool, cond, not, _&&_, _||_}
-use lib.Dec.{eqb, ltb}
-use lib.ListN.{getD}
+use mathlib.Core.Bool.{Bool, cond, not, _&&_}
 use Rattle.base_finite.specs.Below.{count, least, spread}
 use Rattle.base_nodeset.specs.Set.{mem}
 use Rattle.base_nodeset.specs.declared.NodeSet.{NodeSet}
-
--- v is a node of the fragment of r
-unfoldable pub nodeIn : ℕ → List ℕ → ℕ → ℕ → Bool
-nodeIn n owner r v = ltb v n && eqb (getD owner v 0) r
-
-abbrev pub WithNode : NodeSet → ℕ → ℕ → ℕ → NodeSet → Type 0
-WithNode s v own root r = (u : ℕ) → mem r u ≡ (eqb u v && eqb own root || mem s u)
-
-abbrev pub NodesOf : ℕ → List ℕ → ℕ → NodeSet → Type 0
-NodesOf n owner root r = (v : ℕ) → mem r v ≡ nodeIn n owner root v
+use Rattle.base_tables.specs.Trees.{nodeIn}
 
 -- v is a leaf of the fragment of r
 unfoldable pub leafIn : ℕ → List ℕ → NodeSet → ℕ → ℕ → Bool

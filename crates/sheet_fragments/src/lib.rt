@@ -3,6 +3,7 @@ pub mod records;
 
 use base_nodeset::NodeSet;
 use base_tables::trees::inner_nodes;
+use base_tables::trees::nodes_with;
 use base_tables::trees::owners;
 use base_tables::trees::root_nodes;
 use format::Refusal;
@@ -16,32 +17,13 @@ ghost use Rattle.base_finite.specs.Below.{count};
 ghost use Rattle.base_nodeset.specs.Set.{mem};
 ghost use Rattle.format.specs.Sheet.{outcome};
 ghost use Rattle.base_tables.specs.Trees.{Parents};
-ghost use Rattle.sheet_fragments.specs.Owner.{WithNode, NodesOf, recordIn, recordsIn};
+ghost use Rattle.sheet_fragments.specs.Owner.{recordIn, recordsIn};
 ghost use Rattle.sheet_fragments.specs.Table.{TableIn, Tabled};
 
 pub enum Table {
     // The number of fragments.
     Filled(usize),
     Refused(Refusal),
-}
-
-fn with_node(set: NodeSet, v: usize, own: u8, root: u8) -> NodeSet
-    requires { ⌜ v < 128 ⌝ }
-    ensures { λ r. ⌜ WithNode set v own root r ⌝ }
-{
-    if own == root { set.with(v) } else { set }
-}
-
-// The nodes of a root's fragment.
-fn nodes_of(owner: &[u8], n: usize, root: u8) -> NodeSet
-    requires { ⌜ (n ≤ 128) × (length (now owner) ≡ 128) ⌝ }
-    ensures { λ r. ⌜ NodesOf n (now (owner .entry)) root r ⌝ }
-{
-    let mut set = NodeSet::empty();
-    for x in 0..n {
-        set = with_node(set, x, owner[x], root);
-    }
-    set
 }
 
 // The record of r, where r is a root, and the place after it.
@@ -63,7 +45,7 @@ fn put(
         return at;
     }
     let root = r as u8;
-    let leaves = nodes_of(owner, n, root).difference(inner);
+    let leaves = nodes_with(owner, n, root).difference(inner);
     out[at] = root;
     out[at + 1] = leaves.lowest() as u8;
     out[at + 2] = leaves.count() as u8;

@@ -23,9 +23,6 @@ use Rattle.theory_list.specs.Settled.{settled}
 use Rattle.theory_list.proofs.Settled.{settled-solved}
 use Rattle.base_tables.specs.Rows.{inRow}
 use Rattle.solve_reduce.specs.Reduced.{LooplessForm}
-use Rattle.solve_reduce.specs.Chosen.{Chosen}
-use Rattle.solve_reduce.specs.declared.choose.Fork.{Fork}
-use Rattle.solve_reduce.specs.declared.choose.Fork.the-variants.{None, At}
 use Rattle.theory_walk.specs.Walk.{Decision, first, second, half, graphAt, Entering, Leaving}
 use Rattle.theory_walk.proofs.Halves.{solvable-loopless, half-solvable, half-shaped}
 use Rattle.theory_walk.proofs.Decisions.{graph-pushed, graph-nodes, graph-shaped, valid-popped}

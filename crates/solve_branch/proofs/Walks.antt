@@ -14,7 +14,7 @@ use Rattle.theory_list.specs.Choosing.{Unforked}
 use Rattle.theory_list.specs.Readings.{listed}
 use Rattle.theory_list.specs.Settled.{settled}
 use Rattle.solve_reduce.specs.Reduced.{LooplessForm}
-use Rattle.solve_reduce.specs.Chosen.{Bounded, Chosen}
+use Rattle.solve_reduce.specs.Chosen.{Chosen}
 use Rattle.solve_reduce.specs.declared.choose.Fork.{Fork}
 use Rattle.solve_reduce.specs.declared.choose.Fork.the-variants.{None, At}
 use Rattle.theory_walk.specs.Walk.{Decision, first, second, half, graphAt, Entering, Leaving}

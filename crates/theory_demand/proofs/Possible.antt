@@ -23,11 +23,10 @@ use Rattle.theory_edges.proofs.Pigeonhole.{pigeonhole}
 use Rattle.theory_format.proofs.Spelling.{accepted-well-formed}
 use Rattle.theory_forest.specs.Shape.{Shaped}
 use Rattle.theory_forest.proofs.Shape.{well-formed-shaped}
-use Rattle.theory_forest.proofs.Table.{graph-edge-within}
 use Rattle.theory_list.specs.Readings.{listed}
 use Rattle.theory_list.proofs.Readings.{listing-exists, solvable-decided}
 use Rattle.theory_rule1.proofs.Ending.{rule1-ends}
-use Rattle.theory_refutes.proofs.Cycles.{Joined, CycleFacts, cycle-facts, hypernormal-cycle}
+use Rattle.theory_refutes.proofs.Cycles.{joined-below, CycleFacts, cycle-facts, hypernormal-cycle}
 use Rattle.theory_cycle.proofs.Theorem62.{unsolvable-cycle}
 use Rattle.counter.proofs.Answering.{some-listed}
 use Rattle.counter.specs.Calls.{reach, CycleWritten, Counts, ReadingCall, ConfigurationCall, DrawingCall}
@@ -56,12 +55,6 @@ unfolding pairs
 pairs-half bs e = omega arith
 
 module _ (g : Graph) (s : Shaped g) where
-  joined-below : (k u v : ℕ) → Joined g k u v → u < g .nodes
-  joined-below k u v (inl (e, inl d)) = graph-edge-within g s u v (inl d) .0
-  joined-below k u v (inl (e, inr d)) = graph-edge-within g s v u (inl d) .1
-  joined-below k u v (inr (e, inl d)) = graph-edge-within g s u v (inr d) .0
-  joined-below k u v (inr (e, inr d)) = graph-edge-within g s v u (inr d) .1
-
   -- its nodes are all different
   not-longer : (bs : List ℕ) → CycleFacts g bs → pairs bs ≤ g .nodes
   not-longer bs f =
@@ -69,7 +62,7 @@ module _ (g : Graph) (s : Shaped g) where
       (λ (e : leb (pairs bs) (g .nodes) ≡ true). leb-true (pairs bs) (g .nodes) e)
       (λ (e : leb (pairs bs) (g .nodes) ≡ false).
       let more : g .nodes < pairs bs = leb-false (pairs bs) (g .nodes) e in
-      let r = pigeonhole (g .nodes) (node bs) (λ i l. joined-below (kind bs i) (node bs i) (next bs i) (f .joins i (omega arith))) in
+      let r = pigeonhole (g .nodes) (node bs) (λ i l. joined-below g s (kind bs i) (node bs i) (next bs i) (f .joins i (omega arith))) in
       let one : r .0 ≡ r .1 = f .one-place (r .0) (r .1) (omega (arith, r .2, r .3)) (omega (arith, r .3)) (r .4) in
       absurd (omega (arith, r .2, one)))
 

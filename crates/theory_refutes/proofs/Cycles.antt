@@ -16,7 +16,8 @@ use Rattle.base_finite.proofs.Laws.{by-bool, or-cases, and-both, all-at}
 use Rattle.graph.specs.Graph.{Graph, among, leaf, TreeEdge, DominanceEdge}
 use Rattle.graph.specs.Cycle.{pairs, node, kind, next, joined, sameEdge, cycle, dominanceAt, hypernormal, hypernormalCycle}
 use Rattle.theory_edges.proofs.Ends.{leaf-below}
-use Rattle.theory_forest.proofs.Table.{or-holds, and-holds, eqb-holds}
+use Rattle.theory_forest.specs.Shape.{Shaped}
+use Rattle.theory_forest.proofs.Table.{or-holds, and-holds, eqb-holds, graph-edge-within}
 
 -- edges
 
@@ -51,6 +52,13 @@ same-edge-sym bs i j e = (
 abbrev pub Joined : Graph → ℕ → ℕ → ℕ → Type 0
 Joined g k u v =
     ((k ≡ 2) × (TreeEdge g u v ⊎ TreeEdge g v u)) ⊎ ((k ≡ 3) × (DominanceEdge g u v ⊎ DominanceEdge g v u))
+
+-- what is joined are nodes
+pub joined-below : (g : Graph) → Shaped g → (k u v : ℕ) → Joined g k u v → u < g .nodes
+joined-below g s k u v (inl (e, inl d)) = graph-edge-within g s u v (inl d) .0
+joined-below g s k u v (inl (e, inr d)) = graph-edge-within g s v u (inl d) .1
+joined-below g s k u v (inr (e, inl d)) = graph-edge-within g s u v (inr d) .0
+joined-below g s k u v (inr (e, inr d)) = graph-edge-within g s v u (inr d) .1
 
 pub joined-cases : (g : Graph) (k u v : ℕ) → joined g k u v ≡ true → Joined g k u v
 unfolding joined

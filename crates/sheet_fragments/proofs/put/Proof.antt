@@ -39,8 +39,8 @@ three-fit c =
 cast-root : tie.Need-cast-root
 cast-root c = search needs
 
-nodes-of-requires : tie.Need-nodes-of-requires
-nodes-of-requires c κs = search needs
+nodes-with-requires : tie.Need-nodes-with-requires
+nodes-with-requires c κs = (search needs, omega arith)
 
 difference-requires : tie.Need-difference-requires
 difference-requires c κs = search needs
@@ -84,7 +84,7 @@ returns-2 c =
     let e = d .before .before in
     let a = e .before .before .before .before .args in
     let is : recordIn (a .n) (now (a .owner)) (a .inner) (a .roots) (a .r) ≡ a .r ∷ c .before .lowest .result ∷ c .count .result ∷ [] =
-    record-of (a .n) (now (a .owner)) (a .inner) (a .roots) (d .before .nodes-of .result) (d .difference .result) (a .r) (root-taken e) (d .before .nodes-of .ensures) (d .difference .ensures)
+    record-of (a .n) (now (a .owner)) (a .inner) (a .roots) (d .before .nodes-with .result) (d .difference .result) (a .r) (root-taken e) (d .before .nodes-with .ensures) (d .difference .ensures)
     ∙ rw (← (c .before .lowest .ensures), ← (c .count .ensures)) in
     rw is (refl, three-stored (now (a .out)) (a .at) (a .r) (c .before .lowest .result) (c .count .result))
 
@@ -95,7 +95,7 @@ put-spec =
     has-requires
     returns
     cast-root
-    nodes-of-requires
+    nodes-with-requires
     difference-requires
     slice-write-out
     lowest-requires

@@ -7,10 +7,6 @@ use Rattle.base_tables.specs.Trees.{innerIn}
 use borrow.Author.Needs.{needs}
 use Rattle.base_tables.proofs.trees.inner_nodes.Statement.{statement}
 use Rattle.base_tables.proofs.trees.inner_nodes.Tie as tie
-use Rattle.base_tables.proofs.trees.inner_nodes.Reads as reads
-use Rattle.base_tables.proofs.trees.inner_nodes.Lts as lts
-use Rattle.base_nodeset.proofs.NodeSet.empty.Reads as empty-reads
-use Rattle.base_tables.proofs.trees.with_parent.Reads as with-parent-reads
 
 abbrev Inv-loop : tie.InvT-loop
 Inv-loop parent n set₀ v₀ set v = (v ≤ n) × ((u : ℕ) → u < 128 → mem set u ≡ innerIn v parent u)

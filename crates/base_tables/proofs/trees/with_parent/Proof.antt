@@ -7,9 +7,6 @@ use Rattle.base_nodeset.specs.Set.{mem}
 use borrow.Author.Needs.{needs}
 use Rattle.base_tables.proofs.trees.with_parent.Statement.{statement}
 use Rattle.base_tables.proofs.trees.with_parent.Tie as tie
-use Rattle.base_tables.proofs.trees.with_parent.Reads as reads
-use Rattle.base_tables.proofs.trees.with_parent.Lts as lts
-use Rattle.base_nodeset.proofs.NodeSet.with.Reads as with-reads
 
 with-requires : tie.Need-with-requires
 with-requires c κs = search needs

@@ -1,19 +1,19 @@
--- The set has the nodes below x whose owner is the root.
+-- The set has the nodes below v whose entry is x.
 use Prim.Native.Nat.{ℕ, _-_, _≤_}
 use mathlib.Core.Path.{_≡_, sym, _∙_}
 use native.Mathlib.Omega.{arith}
 use borrow.Author.Needs.{needs}
 use Rattle.base_nodeset.specs.Set.{mem}
-use Rattle.sheet_fragments.specs.Owner.{nodeIn}
-use Rattle.sheet_fragments.proofs.Owned.{nodes-none, nodes-more}
-use Rattle.sheet_fragments.proofs.nodes_of.Statement.{statement}
-use Rattle.sheet_fragments.proofs.nodes_of.Tie as tie
+use Rattle.base_tables.specs.Trees.{nodeIn}
+use Rattle.base_tables.proofs.Parents.{nodes-none, nodes-more}
+use Rattle.base_tables.proofs.trees.nodes_with.Statement.{statement}
+use Rattle.base_tables.proofs.trees.nodes_with.Tie as tie
 
 abbrev Inv-loop : tie.InvT-loop
-Inv-loop owner n root set₀ x₀ set x = (x ≤ n) × ((u : ℕ) → mem set u ≡ nodeIn x owner root u)
+Inv-loop table n x set₀ v₀ set v = (v ≤ n) × ((u : ℕ) → mem set u ≡ nodeIn v table x u)
 
 abbrev μ-loop : tie.MeasureT-loop
-μ-loop owner n root set₀ x₀ set x = n - x
+μ-loop table n x set₀ v₀ set v = n - v
 
 empty-requires : tie.Need-empty-requires Inv-loop μ-loop
 empty-requires c κs = search needs
@@ -27,8 +27,8 @@ shared-slice-read-with-node c = search needs
 with-node-requires : tie.Need-with-node-requires Inv-loop μ-loop
 with-node-requires c κs = search needs
 
-add-x : tie.Need-add-x Inv-loop μ-loop
-add-x c = search needs
+add-v : tie.Need-add-v Inv-loop μ-loop
+add-v c = search needs
 
 loop-less : tie.Need-loop-less Inv-loop μ-loop
 loop-less c = search needs
@@ -36,17 +36,17 @@ loop-less c = search needs
 loop-again : tie.Need-loop-again Inv-loop μ-loop
 loop-again c =
     let l = c .before .before .before .loop in
-    (omega arith, λ u. c .with-node .ensures u ∙ rw (l .inv .1 u) (sym (nodes-more (l .x) _ _ u)))
+    (omega arith, λ u. c .with-node .ensures u ∙ rw (l .inv .1 u) (sym (nodes-more (l .v) _ _ u)))
 
 returns : tie.Need-returns Inv-loop μ-loop
 returns c =
     let l = c .before .loop in
     let a = c .before .before .before .before .args in
-    let all : l .x ≡ a .n = omega arith in
+    let all : l .v ≡ a .n = omega arith in
     λ u. l .inv .1 u ∙ rw all
 
-pub nodes-of-spec : {M : Type 1} → statement M
-nodes-of-spec =
+pub nodes-with-spec : {M : Type 1} → statement M
+nodes-with-spec =
     tie.close
     (tie.spec
     Inv-loop
@@ -55,7 +55,7 @@ nodes-of-spec =
     loop-holds
     shared-slice-read-with-node
     with-node-requires
-    add-x
+    add-v
     loop-less
     loop-again
     returns)
