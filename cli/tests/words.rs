@@ -127,7 +127,7 @@ fn placings_are_checked() {
 
 #[test]
 fn text_and_bytes() {
-    for name in ["chain-of-two", "fork", "loop", "one-fragment", "square"] {
+    for name in ["chain-of-two", "every-linguist", "fork", "loop", "one-fragment", "square"] {
         let sheet = sample(&format!("{name}.sheet"));
         let (text, status) = run(&["decode"], &sheet);
         assert_eq!(status, 0);

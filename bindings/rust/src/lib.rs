@@ -22,6 +22,8 @@
 //! ```
 #![warn(missing_docs)]
 
+#[doc(hidden)]
+pub mod foreign;
 mod library;
 
 use std::fmt;

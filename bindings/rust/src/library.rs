@@ -1,59 +1,6 @@
 //! The static library's functions (`include/bixtogan.h`), each with its lent memory as slices. The first of a result is the
 //! refusal's number, 0 for an answer.
-use crate::Fragment;
-
-mod foreign {
-    extern "C" {
-        pub fn bixtogan_count(sheet: *const u8, length: usize, readings: &mut u64) -> u8;
-        pub fn bixtogan_reading(
-            sheet: *const u8,
-            length: usize,
-            place: &mut u64,
-            out: *mut u8,
-            room: usize,
-            pairs: &mut u64,
-        ) -> u8;
-        pub fn bixtogan_readings(
-            sheet: *const u8,
-            length: usize,
-            place: &mut u64,
-            out: *mut u8,
-            room: usize,
-            pairs: &mut u64,
-        ) -> u8;
-        pub fn bixtogan_configuration(
-            sheet: *const u8,
-            length: usize,
-            out: *mut u8,
-            room: usize,
-            pairs: &mut u64,
-        ) -> u8;
-        pub fn bixtogan_drawing(
-            sheet: *const u8,
-            length: usize,
-            number: u64,
-            out: *mut u8,
-            room: usize,
-            drawn: &mut u64,
-        ) -> u8;
-        pub fn bixtogan_tidy(sheet: *const u8, length: usize, out: *mut u8, room: usize, tidied: &mut u64) -> u8;
-        pub fn bixtogan_fragments(sheet: *const u8, length: usize, out: *mut u8, room: usize, records: &mut u64) -> u8;
-        pub fn bixtogan_check_cycle(
-            sheet: *const u8,
-            length: usize,
-            cycle: *const u8,
-            bytes: usize,
-            yes: &mut u8,
-        ) -> u8;
-        pub fn bixtogan_check_placing(
-            sheet: *const u8,
-            length: usize,
-            placing: *const u8,
-            bytes: usize,
-            answers: &mut u8,
-        ) -> u8;
-    }
-}
+use crate::{foreign, Fragment};
 
 // Each call hands over slices and references that are valid and, where they can be written, borrowed by this call alone. That is
 // all that the library asks of its caller.

@@ -1,58 +1,6 @@
 //! The library's functions without the bindings: what they put into the numbers lent to them, which the bindings hide after a
 //! refusal. Each takes what the number holds before, and hands back what was returned and what it holds then.
-
-mod foreign {
-    extern "C" {
-        pub fn bixtogan_count(sheet: *const u8, length: usize, readings: &mut u64) -> u8;
-        pub fn bixtogan_reading(
-            sheet: *const u8,
-            length: usize,
-            place: &mut u64,
-            out: *mut u8,
-            room: usize,
-            pairs: &mut u64,
-        ) -> u8;
-        pub fn bixtogan_readings(
-            sheet: *const u8,
-            length: usize,
-            place: &mut u64,
-            out: *mut u8,
-            room: usize,
-            pairs: &mut u64,
-        ) -> u8;
-        pub fn bixtogan_configuration(
-            sheet: *const u8,
-            length: usize,
-            out: *mut u8,
-            room: usize,
-            pairs: &mut u64,
-        ) -> u8;
-        pub fn bixtogan_drawing(
-            sheet: *const u8,
-            length: usize,
-            number: u64,
-            out: *mut u8,
-            room: usize,
-            drawn: &mut u64,
-        ) -> u8;
-        pub fn bixtogan_tidy(sheet: *const u8, length: usize, out: *mut u8, room: usize, tidied: &mut u64) -> u8;
-        pub fn bixtogan_fragments(sheet: *const u8, length: usize, out: *mut u8, room: usize, records: &mut u64) -> u8;
-        pub fn bixtogan_check_cycle(
-            sheet: *const u8,
-            length: usize,
-            cycle: *const u8,
-            bytes: usize,
-            yes: &mut u8,
-        ) -> u8;
-        pub fn bixtogan_check_placing(
-            sheet: *const u8,
-            length: usize,
-            placing: *const u8,
-            bytes: usize,
-            answers: &mut u8,
-        ) -> u8;
-    }
-}
+use bixtogan::foreign;
 
 /// What a call returned, and the number lent to it.
 pub type Told<T> = (u8, T);
