@@ -1,15 +1,16 @@
 -- Going through the members of a set, the lowest first: there is one while the set is not empty, and it leaves one less.
 -- All members are below 128, where the high word has its 64 bits.
-use Prim.Native.Nat.{ℕ, _+_, _^_, _<_}
+use Prim.Native.Nat.{ℕ, _+_, _^_, _≤_, _<_}
 use mathlib.Core.Path.{_≡_, sym, ap, _∙_}
 use mathlib.Core.Bool.{Bool, true, false, not, true≢false}
 use native.Mathlib.Omega.{arith}
 use lib.Dec.{eqb, ltb}
 use borrow.Author.Tests.{eq-eqb, ne-eqb, eqb-true, eqb-false, lt-ltb, ltb-true, ltb-false, not-true}
 use Rattle.base_finite.specs.Below.{any, count, least}
-use Rattle.base_finite.proofs.Laws.{and-both, by-bool, not-not, any-found, any-false, count-one-more, least-at, least-holds}
-use Rattle.base_nodeset.specs.Set.{mem, OfByte, Removed}
+use Rattle.base_finite.proofs.Laws.{and-both, by-bool, not-not, any-found, any-false, count-one-more, least-at, least-below, least-holds}
+use Rattle.base_nodeset.specs.Set.{mem, OfByte, Removed, Lowest, Pops}
 use Rattle.base_nodeset.specs.declared.NodeSet.{NodeSet}
+use Rattle.base_nodeset.specs.declared.Popped.the-variants.{None, Member}
 use Rattle.base_nodeset.proofs.Laws.{member-beyond}
 
 abbrev pub Small : NodeSet → Type 0
@@ -65,6 +66,35 @@ removed-cases s k t r j m f g =
 
 pub one-less : (s : NodeSet) (k : ℕ) (t : NodeSet) → k < 128 → mem s k ≡ true → Removed s k t → count 128 (mem s) ≡ count 128 (mem t) + 1
 one-less s k t h m r = count-one-more 128 (mem t) (mem s) k h (removed-gone s k t r) m (removed-other s k t r)
+
+-- the least number below 128 that is in s, and 128 where there is none
+
+pub pops-none : (s : NodeSet) (k : ℕ) → s .high < 2 ^ 64 → k ≡ least 128 (mem s) → 128 ≤ k → Pops s None
+pops-none s k h e l = record {
+  empty = λ _ j.
+      by-bool (mem s j)
+      (λ m. let small : j < 128 = small-set s h j m in least-below 128 (mem s) j (omega arith))
+      (λ m. m);
+  lowest = λ x t q. let z : _≡_ {A = ℕ} 0 1 = cc in absurd (omega arith);
+}
+
+pub pops-lowest : (s : NodeSet) (k : ℕ) (t : NodeSet) → k ≡ least 128 (mem s) → k < 128 → Removed s k t → Pops s (Member k t)
+pops-lowest s k t e h r =
+    let m : mem s k ≡ true = rw e (least-holds 128 (mem s) (omega arith)) in
+    let found : Lowest s k t = record {
+      below = h;
+      in-set = m;
+      none-lower = λ j l. least-below 128 (mem s) j (omega arith);
+      others = r;
+      one-less = one-less s k t h m r;
+    } in
+    record {
+      empty = λ q. let z : _≡_ {A = ℕ} 0 1 = cc in absurd (omega arith);
+      lowest = λ x u q.
+          let e : x ≡ k = cc in
+          let f : u ≡ t = cc in
+          rw (e, f) found;
+    }
 
 -- the set of a byte's node
 pub of-byte-is : (byte : ℕ) (s : NodeSet) → OfByte byte s → (k : ℕ) → k < 128 → mem s k ≡ eqb byte k

@@ -3,11 +3,17 @@ ghost use mathlib.Core.Path.{_≡_};
 ghost use mathlib.Core.Bool.{not};
 ghost use Prim.Native.Nat.{_<_};
 ghost use Rattle.base_finite.specs.Below.{any, count, least};
-ghost use Rattle.base_nodeset.specs.Set.{mem, Empty, Only, OfByte, Inserted, Removed, Union, Intersection, Difference};
+ghost use Rattle.base_nodeset.specs.Set.{mem, Empty, Only, OfByte, Inserted, Removed, Union, Intersection, Difference, Pops};
 
 pub struct NodeSet {
     pub low: u64,
     pub high: u64,
+}
+
+// The lowest member, and the set without it.
+pub enum Popped {
+    None,
+    Member(usize, NodeSet),
 }
 
 impl NodeSet {
@@ -113,6 +119,17 @@ impl NodeSet {
             64 + u64::trailing_zeros(self.high) as usize
         } else {
             u64::trailing_zeros(self.low) as usize
+        }
+    }
+
+    pub fn pop(self) -> Popped
+        ensures { λ r. ⌜ Pops self r ⌝ }
+    {
+        let k = self.lowest();
+        if k < 128 {
+            Popped::Member(k, self.without(k))
+        } else {
+            Popped::None
         }
     }
 

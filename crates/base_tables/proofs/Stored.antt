@@ -1,13 +1,15 @@
--- A set stored.
+-- A set stored; all words copied.
 use Prim.Native.Nat.{ℕ, _<_}
-use mathlib.Core.Path.{_≡_}
+use mathlib.Core.Path.{_≡_, _∙_}
 use mathlib.Core.List.{List}
 use mathlib.Core.Bool.{true, false}
 use lib.Dec.{eqb}
-use lib.ListN.{length, set, length-set}
+use lib.ListN.{length, getD, set, length-set}
 use lib.Seq.{getD-set-same, getD-set-other}
-use borrow.Author.Tests.{eqb-true, eqb-false}
+use native.Mathlib.Omega.{arith}
+use borrow.Author.Tests.{eqb-true, eqb-false, lt-ltb}
 use Rattle.base_finite.proofs.Laws.{by-bool}
+use Rattle.base_finite.proofs.Stores.{Filled, copied-all}
 use Rattle.base_nodeset.specs.declared.NodeSet.{NodeSet}
 use Rattle.base_tables.specs.Rows.{RowPut}
 
@@ -23,3 +25,6 @@ row-put i s low high hl hh =
           let other : u ≡ i → ⊥ = eqb-false u i e in
           rw (e, getD-set-other low i u (s .low) 0 other, getD-set-other high i u (s .high) 0 other));
     }
+
+pub copied : (k : ℕ) (from old new : List ℕ) → length from ≡ k → length new ≡ k → Filled (λ (j : ℕ). getD from j 0) k old new → new ≡ from
+copied k from old new h l so = copied-all from new k (omega arith) (omega arith) (λ i b. so i ∙ rw (lt-ltb i k b))

@@ -1,29 +1,30 @@
 -- Runs of stores, one after the other, and the bytes of the commands that a loop has passed.
-use Prim.Native.Nat.{ℕ, suc, _+_, _-_, _≤_, _<_}
-use mathlib.Core.Path.{_≡_, refl, sym, subst⁻¹, _∙_}
-use mathlib.Core.List.{List, [], _∷_, _++_}
-use mathlib.Core.Bool.{true, false, cond, not, _&&_, false≢true}
+use Prim.Native.Nat.{ℕ, zero, suc, _+_, _≤_, _<_}
+use mathlib.Core.Path.{_≡_, refl, ap, _∙_}
+use mathlib.Core.List.{List, [], _∷_, _++_, append-assoc, append-nil}
+use mathlib.Core.Bool.{false, cond, not}
+use mathlib.Core.Logic.{⊎-elim}
+use native.Mathlib.Nat.{eq-or-lt-of-le}
 use native.Mathlib.Omega.{arith}
-use lib.Dec.{eqb, ltb, leb}
-use lib.ListN.{length, getD}
+use lib.Dec.{eqb}
+use lib.ListN.{length, getD, length-append}
 use lib.Seq.{sets}
-use lib.Arith.{lt-of-le-ne}
-use borrow.Author.Tests.{eqb-true, eqb-false, leb-true, leb-false, le-leb, lt-leb, ltb-true, ltb-false}
-use Rattle.base_finite.specs.Below.{any, count, least, spread}
-use Rattle.base_finite.proofs.Laws.{by-bool, spread-more, count-more, and-both, least-at, least-holds, least-below, least-le, any-false, any-found}
+use borrow.Author.Tests.{eq-eqb, ne-eqb}
+use Rattle.base_finite.specs.Below.{count, spread}
+use Rattle.base_finite.proofs.Laws.{by-bool, spread-more, spread-ext, count-more}
 use Rattle.base_finite.proofs.Runs.{spread-longer, spread-gap}
 use Rattle.base_finite.proofs.Stores.{written-none, written-more, room}
-use Rattle.base_nodeset.specs.Set.{mem, Removed}
+use Rattle.base_nodeset.specs.Set.{mem, Empty, Lowest}
 use Rattle.base_nodeset.specs.declared.NodeSet.{NodeSet}
+use Rattle.base_tables.specs.Rows.{inRow, IsRow}
 use Rattle.base_finite.specs.Stores.{Written}
 use Rattle.sheet_encode.specs.Tidy.{treeBytes, treePart, rowCommand, rowBytes, dominancePart, treesIn}
 
--- the commands of a row up to k, and what is left of it from k on
+-- the commands of the members of a row that are no longer left are written
 pub record RowLeft (l : ℕ) (row left : NodeSet) (old : List ℕ) (start : ℕ) (new : List ℕ) (at : ℕ) : Type 0 where
-  pub passed : ℕ
-  pub few : passed ≤ 128
-  pub rest : (j : ℕ) → mem left j ≡ (leb passed j && mem row j)
-  pub so-far : Written old start (spread passed (rowCommand l row)) new at
+  pub bytes : List ℕ
+  pub rest : bytes ++ rowBytes l left ≡ rowBytes l row
+  pub so-far : Written old start bytes new at
 
 -- one node more
 
@@ -51,9 +52,10 @@ pub tree-part-longer : (c n : ℕ) (parents : List ℕ) → c ≤ n → length (
 unfolding treePart
 tree-part-longer c n parents h = spread-longer (λ k. treeBytes (getD parents k 0) k) c n h
 
-pub dominance-part-more : (l : ℕ) (low high : List ℕ) → dominancePart (l + 1) low high ≡ dominancePart l low high ++ rowBytes l (record { low = getD low l 0; high = getD high l 0 })
-unfolding dominancePart
-dominance-part-more l low high = spread-more l (λ k. rowBytes k (record { low = getD low k 0; high = getD high k 0 }))
+pub dominance-part-more : (l : ℕ) (low high : List ℕ) (row : NodeSet) → IsRow (inRow low high) l row → dominancePart (l + 1) low high ≡ dominancePart l low high ++ rowBytes l row
+unfolding dominancePart rowBytes
+dominance-part-more l low high row is =
+    spread-more l (λ k. rowBytes k (record { low = getD low k 0; high = getD high k 0 })) ∙ ap (λ (bs : List ℕ). dominancePart l low high ++ bs) (spread-ext 128 _ _ (λ r h. rw (is r)))
 
 pub dominance-part-longer : (l n : ℕ) (low high : List ℕ) → l ≤ n → length (dominancePart l low high) ≤ length (dominancePart n low high)
 unfolding dominancePart
@@ -61,103 +63,58 @@ dominance-part-longer l n low high h = spread-longer (λ k. rowBytes k (record {
 
 -- the row's commands, one member at a time
 
+row-empty : (l : ℕ) (left : NodeSet) → Empty left → rowBytes l left ≡ []
+unfolding rowBytes spread
+row-empty l left none = spread-gap (rowCommand l left) 0 128 (omega arith) (λ k a b. rw (none k))
+
+-- the lowest member's command comes first
+row-first : (l : ℕ) {x : ℕ} {left rest : NodeSet} → Lowest left x rest → rowBytes l left ≡ (3 ∷ l ∷ x ∷ []) ++ rowBytes l rest
+unfolding rowBytes spread
+row-first l {x} {left} {rest} first = up-to 128 (first .below)
+  where
+    gone : (k : ℕ) → k < x → mem rest k ≡ false
+    gone k h = first .others k ∙ rw (first .none-lower k h, ne-eqb k x (omega arith))
+    up-to : (n : ℕ) → x < n → spread n (rowCommand l left) ≡ (3 ∷ l ∷ x ∷ []) ++ spread n (rowCommand l rest)
+    up-to zero h = absurd (omega arith)
+    up-to (suc n) h =
+        ⊎-elim
+        (λ (e : x ≡ n).
+        rw (
+          ← e,
+          spread-gap (rowCommand l left) 0 x (omega arith) (λ k a b. rw (first .none-lower k b)),
+          spread-gap (rowCommand l rest) 0 x (omega arith) (λ k a b. rw (gone k b)),
+          first .in-set,
+          first .others x,
+          eq-eqb x x (omega arith),
+        ))
+        (λ (b : x < n). rw (up-to n b, first .others n, ne-eqb n x (omega arith)) (append-assoc (3 ∷ l ∷ x ∷ []) (spread n (rowCommand l rest)) (rowCommand l left n)))
+        (eq-or-lt-of-le (omega arith))
+
 module _ (l : ℕ) (row : NodeSet) where
   pub row-none : (old : List ℕ) (start : ℕ) → RowLeft l row row old start old start
-  unfolding spread
-  row-none old start =
-      record { passed = 0; few = omega arith; rest = λ j. rw (le-leb 0 j (omega arith)); so-far = written-none old start }
+  row-none old start = record { bytes = []; rest = refl; so-far = written-none old start }
 
   module _ (left : NodeSet) (old : List ℕ) (start : ℕ) (new : List ℕ) (at : ℕ) (w : RowLeft l row left old start new at) where
-    is-left : (j : ℕ) → mem left j ≡ true → (w .passed ≤ j) × (mem row j ≡ true)
-    is-left j m =
-        let both = and-both (leb (w .passed) j) (mem row j) (sym (w .rest j) ∙ m) in
-        (leb-true (w .passed) j (both .0), both .1)
-
-    module _ (some : any 128 (mem left) ≡ true) where
-      -- the next member of the row
-      pub next-below : least 128 (mem left) < 128
-      next-below = let f = any-found 128 (mem left) some in omega (arith, f .1, least-at 128 (mem left) (f .0) (f .1) (f .2))
-
-      next-member : (w .passed ≤ least 128 (mem left)) × (mem row (least 128 (mem left)) ≡ true)
-      next-member = is-left (least 128 (mem left)) (least-holds 128 (mem left) next-below)
-
-      -- none of the row is passed over
-      up-to-next : spread (suc (least 128 (mem left))) (rowCommand l row) ≡ spread (w .passed) (rowCommand l row) ++ (3 ∷ l ∷ least 128 (mem left) ∷ [])
-      unfolding spread
-      up-to-next =
-          rw (spread-gap (rowCommand l row) (w .passed) (least 128 (mem left)) (next-member .0) (λ k a b. passed-over k a b), next-member .1)
-        where
-          passed-over : (k : ℕ) → w .passed ≤ k → k < least 128 (mem left) → rowCommand l row k ≡ []
-          passed-over k a b =
-              let out = least-below 128 (mem left) k b in
-              let no-row : mem row k ≡ false = (rw (le-leb (w .passed) k a) at (sym (w .rest k))) ∙ out in
-              rw no-row
+    module _ (x : ℕ) (left′ : NodeSet) (first : Lowest left x left′) where
+      next : (w .bytes ++ (3 ∷ l ∷ x ∷ [])) ++ rowBytes l left′ ≡ rowBytes l row
+      next = rw append-assoc (rw (row-first l first) at (w .rest))
 
       pub row-room : start + length (rowBytes l row) ≤ length old → at + 3 ≤ length old
-      unfolding rowBytes
       row-room fits =
-          let longer = spread-longer (rowCommand l row) (suc (least 128 (mem left))) 128 next-below in
-          room old start (spread (w .passed) (rowCommand l row)) new at (3 ∷ l ∷ least 128 (mem left) ∷ []) (spread 128 (rowCommand l row)) (w .so-far) (rw up-to-next at longer) fits
+          room old start (w .bytes) new at (3 ∷ l ∷ x ∷ []) (rowBytes l row) (w .so-far)
+          (rw (← next) (omega (arith, length-append (w .bytes ++ (3 ∷ l ∷ x ∷ [])) (rowBytes l left′))))
+          fits
 
-      pub row-more : (left′ : NodeSet) (new′ : List ℕ) → Removed left (least 128 (mem left)) left′ → new′ ≡ sets new at (3 ∷ l ∷ least 128 (mem left) ∷ [])
-          → RowLeft l row left′ old start new′ (at + 3)
-      row-more left′ new′ removed stored =
+      pub row-more : (new′ : List ℕ) → new′ ≡ sets new at (3 ∷ l ∷ x ∷ []) → RowLeft l row left′ old start new′ (at + 3)
+      row-more new′ stored =
           record {
-            passed = suc (least 128 (mem left));
-            few = next-below;
-            rest = rest-now;
-            so-far = subst⁻¹ (λ (bs : List ℕ). Written old start bs new′ (at + 3)) up-to-next (written-more old start _ new at _ new′ (at + 3) (w .so-far) (record { stored = stored; after = refl }));
+            bytes = w .bytes ++ (3 ∷ l ∷ x ∷ []);
+            rest = next;
+            so-far = written-more old start _ new at _ new′ (at + 3) (w .so-far) (record { stored = stored; after = refl });
           }
-        where
-          rest-now : (j : ℕ) → mem left′ j ≡ (leb (suc (least 128 (mem left))) j && mem row j)
-          rest-now j =
-              removed j
-              ∙ by-bool (eqb j (least 128 (mem left)))
-              (λ (e : eqb j (least 128 (mem left)) ≡ true).
-              let is = eqb-true j (least 128 (mem left)) e in
-              rw (e, lt-leb (suc (least 128 (mem left))) j (omega arith)))
-              (λ (e : eqb j (least 128 (mem left)) ≡ false).
-              let other = eqb-false j (least 128 (mem left)) e in
-              rw e
-              (by-bool (leb (suc (least 128 (mem left))) j)
-              (λ (f : leb (suc (least 128 (mem left))) j ≡ true).
-              let above = leb-true (suc (least 128 (mem left))) j f in
-              let from = next-member .0 in
-              rw f (w .rest j ∙ rw (le-leb (w .passed) j (omega arith))))
-              (λ (f : leb (suc (least 128 (mem left))) j ≡ false).
-              let below = leb-false (suc (least 128 (mem left))) j f in
-              rw f (least-below 128 (mem left) j (lt-of-le-ne (omega arith) other)))))
 
-      pub row-less : (left′ : NodeSet) → Removed left (least 128 (mem left)) left′ → 128 - least 128 (mem left′) < 128 - least 128 (mem left)
-      row-less left′ removed =
-          let next : least 128 (mem left) < least 128 (mem left′) =
-          by-bool (ltb (least 128 (mem left)) (least 128 (mem left′)))
-          (λ (e : ltb (least 128 (mem left)) (least 128 (mem left′)) ≡ true). ltb-true (least 128 (mem left)) (least 128 (mem left′)) e)
-          (λ (e : ltb (least 128 (mem left)) (least 128 (mem left′)) ≡ false).
-          let le = ltb-false (least 128 (mem left)) (least 128 (mem left′)) e in
-          let holds = least-holds 128 (mem left′) (omega (arith, next-below)) in
-          absurd (still-there (least 128 (mem left′)) le (sym (removed (least 128 (mem left′))) ∙ holds))) in
-          let le128 = least-le 128 (mem left′) in
-          let b = next-below in
-          omega arith
-        where
-          still-there : (j : ℕ) → j ≤ least 128 (mem left) → (not (eqb j (least 128 (mem left))) && mem left j) ≡ true → ⊥
-          still-there j le both =
-              by-bool (eqb j (least 128 (mem left)))
-              (λ (e : eqb j (least 128 (mem left)) ≡ true). false≢true (rw e at both))
-              (λ (e : eqb j (least 128 (mem left)) ≡ false).
-              let there = and-both (not (eqb j (least 128 (mem left)))) (mem left j) both .1 in
-              false≢true (sym (least-below 128 (mem left) j (lt-of-le-ne le (eqb-false j (least 128 (mem left)) e))) ∙ there))
-
-    pub row-done : any 128 (mem left) ≡ false → Written old start (rowBytes l row) new at
-    unfolding rowBytes
-    row-done none =
-        subst⁻¹ (λ (bs : List ℕ). Written old start bs new at) (spread-gap (rowCommand l row) (w .passed) 128 (w .few) (λ k a b. absent k a b)) (w .so-far)
-      where
-        absent : (k : ℕ) → w .passed ≤ k → k < 128 → rowCommand l row k ≡ []
-        absent k a b =
-            let no-row : mem row k ≡ false = (rw (le-leb (w .passed) k a) at (sym (w .rest k))) ∙ any-false 128 (mem left) none k b in
-            rw no-row
+    pub row-done : Empty left → Written old start (rowBytes l row) new at
+    row-done none = rw (← w .rest, row-empty l left none, append-nil) (w .so-far)
 
 -- a count of nodes passed stays below their number
 pub more-le : (k p c : ℕ) → k ≤ c → k + cond (not (eqb p 255)) 1 0 ≤ c + 1

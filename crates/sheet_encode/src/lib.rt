@@ -1,6 +1,8 @@
 // Tidying: the sheet of the same graph with its commands in the tidy order.
 use base_nodeset::NodeSet;
+use base_nodeset::Popped;
 use base_tables::NONE;
+use base_tables::rows::set_at;
 use format::Refusal;
 use sheet_decode::judge::Verdict;
 use sheet_decode::read::read;
@@ -60,13 +62,14 @@ fn write_row(row: NodeSet, l: u8, out: &mut [u8], start: usize) -> usize
 {
     let mut left = row;
     let mut at = start;
-    while !left.is_empty() {
-        let r = left.lowest();
+    loop {
+        let Popped::Member(r, rest) = left.pop() else {
+            return at;
+        };
         put(out, at, 3, l, r as u8);
         at += 3;
-        left = left.without(r);
+        left = rest;
     }
-    at
 }
 
 fn write_dominance(low: &[u64], high: &[u64], n: usize, out: &mut [u8], start: usize) -> usize
@@ -75,11 +78,7 @@ fn write_dominance(low: &[u64], high: &[u64], n: usize, out: &mut [u8], start: u
 {
     let mut at = start;
     for l in 0..n {
-        let row = NodeSet {
-            low: low[l],
-            high: high[l],
-        };
-        at = write_row(row, l as u8, out, at);
+        at = write_row(set_at(low, high, l), l as u8, out, at);
     }
     at
 }

@@ -9,11 +9,11 @@ use lib.Dec.{eqb, ltb}
 use lib.ListN.{length, getD, set, List·getD-eq-default}
 use lib.Seq.{getD-set-same, getD-set-other}
 use borrow.Author.Tests.{eq-eqb, ne-eqb, eqb-true, eqb-false, lt-ltb, le-ltb, ltb-true, ltb-false}
-use Rattle.base_finite.proofs.Laws.{by-bool, or-cases, or-false, and-both, and-false}
-use Rattle.base_nodeset.specs.Set.{mem, Empty, Inserted, Removed, Union}
+use Rattle.base_finite.proofs.Laws.{by-bool, or-cases, or-false, and-both, and-true, and-false}
+use Rattle.base_nodeset.specs.Set.{mem, Empty, Inserted, Union, Lowest}
 use Rattle.base_nodeset.specs.declared.NodeSet.{NodeSet}
 use Rattle.base_nodeset.proofs.Laws.{member-zero}
-use Rattle.base_nodeset.proofs.Members.{Small, removed-member}
+use Rattle.base_nodeset.proofs.Members.{removed-member}
 use Rattle.graph.specs.Graph.{none}
 use Rattle.theory_forest.proofs.Closure.{Adding}
 use Rattle.theory_forest.proofs.Table.{or-holds, and-holds, eqb-holds}
@@ -98,11 +98,11 @@ done set left u = mem set u && not (mem left u)
 done-none : (set : NodeSet) (u : ℕ) → done set set u ≡ false
 done-none set u = by-bool (mem set u) (λ t. rw t) (λ t. rw t)
 
-done-all : (set left : NodeSet) → Small set → ((u : ℕ) → u < 128 → mem left u ≡ false) → (u : ℕ) → done set left u ≡ mem set u
-done-all set left small none u = by-bool (mem set u) (λ t. rw (t, none u (small u t))) (λ t. rw t)
+done-all : (set left : NodeSet) → Empty left → (u : ℕ) → done set left u ≡ mem set u
+done-all set left none u = rw (none u) (and-true (mem set u))
 
-pub left-stays : (r : ℕ) (set left rest : NodeSet) → ((v : ℕ) → mem left v ≡ true → mem set v ≡ true) → Removed left r rest → (v : ℕ) → mem rest v ≡ true → mem set v ≡ true
-left-stays r set left rest within is v t = within v (removed-member left r rest is v t .0)
+pub left-stays : (set : NodeSet) {left rest : NodeSet} {r : ℕ} → ((v : ℕ) → mem left v ≡ true → mem set v ≡ true) → Lowest left r rest → (v : ℕ) → mem rest v ≡ true → mem set v ≡ true
+left-stays set within first v t = within v (removed-member _ _ _ (first .others) v t .0)
 
 -- rows joined one by one
 
@@ -114,29 +114,29 @@ joined-none set more low high =
       row-is = λ u v. rw (done-none set u) (sym (or-false (inRow low high u v)));
     }
 
-pub joined-more : (x : ℕ) (set left rest more row joined : NodeSet) {low high low₁ high₁ low₂ high₂ : List ℕ} → mem set x ≡ true → mem left x ≡ true
-    → IsRow (inRow low₁ high₁) x row → Union row more joined → RowPut x joined low₁ high₁ low₂ high₂ → Removed left x rest
+pub joined-more : (set more row : NodeSet) {x : ℕ} {left rest joined : NodeSet} {low high low₁ high₁ low₂ high₂ : List ℕ} → mem set x ≡ true → Lowest left x rest
+    → IsRow (inRow low₁ high₁) x row → Union row more joined → RowPut x joined low₁ high₁ low₂ high₂
     → Joined (done set left) (mem more) low high low₁ high₁ → Joined (done set rest) (mem more) low high low₂ high₂
-joined-more x set left rest more row joined {low} {high} {low₁} {high₁} {low₂} {high₂} in-set in-left is-row is-joined put is before =
+joined-more set more row {x} {low = low} {high} in-set first is-row is-joined put before =
     record {
       low-long = put .low-long ∙ before .low-long;
       high-long = put .high-long ∙ before .high-long;
       row-is = λ u v.
           put .row-is u v
-          ∙ rw (is u)
+          ∙ rw (first .others u)
           (by-bool (eqb u x)
           (λ (e : eqb u x ≡ true).
-          rw (e, eqb-true u x e, is-joined v, is-row v, before .row-is x v, in-set, in-left, or-false (inRow low high x v)))
+          rw (e, eqb-true u x e, is-joined v, is-row v, before .row-is x v, in-set, first .in-set, or-false (inRow low high x v)))
           (λ (e : eqb u x ≡ false). rw e (before .row-is u v)));
     }
 
-pub joined-all : (set left : NodeSet) (more : ℕ → Bool) {low high low′ high′ : List ℕ} → Small set → ((x : ℕ) → x < 128 → mem left x ≡ false)
+pub joined-all : (set left : NodeSet) (more : ℕ → Bool) {low high low′ high′ : List ℕ} → Empty left
     → Joined (done set left) more low high low′ high′ → Joined (mem set) more low high low′ high′
-joined-all set left more small none h =
+joined-all set left more none h =
     record {
       low-long = h .low-long;
       high-long = h .high-long;
-      row-is = λ u v. h .row-is u v ∙ rw (done-all set left small none u);
+      row-is = λ u v. h .row-is u v ∙ rw (done-all set left none u);
     }
 
 -- an edge: the rows that rise to a, joined with r and its row
@@ -260,19 +260,19 @@ passed l row left u v = eqb u l && done row left v
 pub passed-none : (l : ℕ) (row : NodeSet) (u v : ℕ) → passed l row row u v ≡ false
 passed-none l row u v = rw (done-none row v) (and-false (eqb u l))
 
-pub passed-more : (l r : ℕ) (row left rest : NodeSet) → mem left r ≡ true → mem row r ≡ true → Removed left r rest → (u v : ℕ)
+pub passed-more : (l : ℕ) (row : NodeSet) {r : ℕ} {left rest : NodeSet} → mem row r ≡ true → Lowest left r rest → (u v : ℕ)
     → (passed l row left u v || (eqb u l && eqb v r)) ≡ passed l row rest u v
-passed-more l r row left rest in-left in-row is u v =
-    rw (is v)
+passed-more l row {r} {left} in-row first u v =
+    rw (first .others v)
     (by-bool (eqb v r)
     (λ (e : eqb v r ≡ true).
     let q : v ≡ r = eqb-true v r e in
-    rw (e, q, in-left, in-row) (by-bool (eqb u l) (λ i. rw i) (λ i. rw i)))
+    rw (e, q, first .in-set, in-row) (by-bool (eqb u l) (λ i. rw i) (λ i. rw i)))
     (λ (e : eqb v r ≡ false).
     rw e (by-bool (eqb u l) (λ i. rw i (or-false (mem row v && not (mem left v)))) (λ i. rw i))))
 
-pub passed-all : (l : ℕ) (row left : NodeSet) → Small row → ((v : ℕ) → v < 128 → mem left v ≡ false) → (u v : ℕ) → passed l row left u v ≡ headOf l row u v
-passed-all l row left small none u v = rw (done-all row left small none v)
+pub passed-all : (l : ℕ) (row left : NodeSet) → Empty left → (u v : ℕ) → passed l row left u v ≡ headOf l row u v
+passed-all l row left none u v = rw (done-all row left none v)
 
 pub passed-from : (n l : ℕ) (row left : NodeSet) → l < n → (u v : ℕ) → passed l row left u v ≡ true → u < n
 passed-from n l row left h u v t = omega (arith, eqb-true u l (and-both (eqb u l) (done row left v) t .0))

@@ -2,10 +2,10 @@
 // 128 words. An edge is added to closed rows, of which there may be more, in one pass over one column of them and one
 // over the rows that it extends.
 use base_nodeset::NodeSet;
+use base_nodeset::Popped;
 use base_tables::NONE;
 use base_tables::rows::in_row;
 use base_tables::rows::put_at;
-use base_tables::rows::row;
 use base_tables::rows::set_at;
 ghost use mathlib.Core.Path.{_≡_};
 ghost use mathlib.Core.Bool.{true, false, _&&_};
@@ -67,11 +67,13 @@ fn join(low: &mut [u64], high: &mut [u64], set: NodeSet, more: NodeSet)
     ensures { λ _. ⌜ Joined (mem set) (mem more) (now (low .entry)) (now (high .entry)) (now (low .exit)) (now (high .exit)) ⌝ }
 {
     let mut left = set;
-    while !left.is_empty() {
-        let x = left.lowest();
+    loop {
+        let Popped::Member(x, rest) = left.pop() else {
+            return;
+        };
         let joined = set_at(low, high, x).union(more);
         put_at(low, high, x, joined);
-        left = left.without(x);
+        left = rest;
     }
 }
 
@@ -126,10 +128,12 @@ fn add_row(row: NodeSet, l: usize, n: usize, low: &mut [u64], high: &mut [u64])
     ensures { λ _. ⌜ Adds n (headOf l row) (now (low .entry)) (now (high .entry)) (now (low .exit)) (now (high .exit)) ⌝ }
 {
     let mut left = row;
-    while !left.is_empty() {
-        let r = left.lowest();
+    loop {
+        let Popped::Member(r, rest) = left.pop() else {
+            return;
+        };
         add_edge(low, high, n, l, r);
-        left = left.without(r);
+        left = rest;
     }
 }
 
@@ -138,7 +142,7 @@ fn add_heads(heads_low: &[u64], heads_high: &[u64], n: usize, low: &mut [u64], h
     ensures { λ _. ⌜ Adds n (headIn n (now («heads_low» .entry)) (now («heads_high» .entry))) (now (low .entry)) (now (high .entry)) (now (low .exit)) (now (high .exit)) ⌝ }
 {
     for l in 0..n {
-        add_row(row(heads_low, heads_high, l), l, n, low, high);
+        add_row(set_at(heads_low, heads_high, l), l, n, low, high);
     }
 }
 

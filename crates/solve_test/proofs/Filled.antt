@@ -6,20 +6,19 @@ use mathlib.Core.Bool.{Bool, true, false, not, _&&_, _||_, true≢false}
 use mathlib.Core.Logic.{_⊎_, inl, inr, ⊎-elim, _↔_}
 use native.Mathlib.Omega.{arith}
 use lib.Dec.{eqb, ltb}
-use lib.ListN.{set, replicate, length-set, length-replicate}
-use lib.Seq.{getD-set-same, getD-set-other}
+use lib.ListN.{replicate, length-replicate}
 use borrow.Author.Tests.{eq-eqb, eqb-true, eqb-false, lt-ltb, le-ltb, ltb-true, ltb-false}
-use Rattle.base_finite.proofs.Laws.{by-bool, and-both, and-false, or-cases, or-right, eqb-sym}
+use Rattle.base_finite.proofs.Laws.{by-bool, and-both, and-true, and-false, or-comm, or-cases, or-right, eqb-sym}
 use Rattle.base_finite.proofs.Stores.{zeros}
-use Rattle.base_nodeset.specs.Set.{mem, Only, Removed, Union, Intersection, Difference}
+use Rattle.base_nodeset.specs.Set.{mem, Empty, Only, Union, Intersection, Difference, Lowest}
 use Rattle.base_nodeset.specs.declared.NodeSet.{NodeSet}
 use Rattle.base_nodeset.proofs.Laws.{member-zero}
-use Rattle.base_nodeset.proofs.Members.{Small, removed-member, removed-cases, removed-gone, removed-out}
+use Rattle.base_nodeset.proofs.Members.{removed-member, removed-cases, removed-gone, removed-out}
 use Rattle.graph.specs.Graph.{Graph, left, leaf, own, leafOf, none}
 use Rattle.theory_edges.proofs.Ends.{leaf-below}
 use Rattle.theory_forest.specs.Shape.{Shaped}
 use Rattle.theory_forest.proofs.Fragments.{leafOf-parts}
-use Rattle.base_tables.specs.Rows.{Long, IsRow, inRow}
+use Rattle.base_tables.specs.Rows.{Long, IsRow, inRow, RowPut}
 use Rattle.base_tables.specs.Trees.{InnerSet, TreeOf, topIn}
 use Rattle.base_tables.proofs.TreeLaws.{inner-is, own-is}
 use Rattle.solve_test.specs.Tables.{Blank, Put, PutAll, NearRows, Symmetric}
@@ -35,26 +34,16 @@ blank-rows m e =
 
 -- a set put into a row
 
-pub put-row : (low high : List ℕ) (u : ℕ) (s row more : NodeSet) → Long low high → u < 128 → IsRow (inRow low high) u row → Union row s more → Put (inRow low high) u s (set low u (more .low)) (set high u (more .high))
-put-row low high u s row more long h is un =
+pub put-row : (u : ℕ) (s row : NodeSet) {more : NodeSet} {low high low′ high′ : List ℕ} → Long low high → IsRow (inRow low high) u row → Union row s more → RowPut u more low high low′ high′ → Put (inRow low high) u s low′ high′
+put-row u s row {low = low} {high} long is un put =
     record {
-      long = (simp length-set (long .0), simp length-set (long .1));
+      long = (put .low-long ∙ long .0, put .high-long ∙ long .1);
       row-is = λ a b.
-          by-bool (eqb a u)
-          (λ (e : eqb a u ≡ true).
-          let q : a ≡ u = eqb-true a u e in
-          rw (e, q, getD-set-same low u (more .low) 0 (omega arith), getD-set-same high u (more .high) 0 (omega arith))
-          (un b ∙ rw (is b) (or-swap (inRow low high u b) (mem s b))))
-          (λ (e : eqb a u ≡ false).
-          let other : a ≡ u → ⊥ = eqb-false a u e in
-          rw (e, getD-set-other low u a (more .low) 0 other, getD-set-other high u a (more .high) 0 other));
+          put .row-is a b
+          ∙ by-bool (eqb a u)
+          (λ (e : eqb a u ≡ true). rw (e, eqb-true a u e) (un b ∙ rw (is b) (or-comm (inRow low high u b) (mem s b))))
+          (λ (e : eqb a u ≡ false). rw e);
     }
-  where
-    or-swap : (x y : Bool) → (x || y) ≡ (y || x)
-    or-swap true true = refl
-    or-swap true false = refl
-    or-swap false true = refl
-    or-swap false false = refl
 
 -- one node put into several rows
 
@@ -71,31 +60,27 @@ put-start low high s f long =
       row-is = λ a b. by-bool (mem s a) (λ t. rw t) (λ t. rw t);
     }
 
-pub put-more : (old : ℕ → ℕ → Bool) (s only left left′ : NodeSet) (f h : ℕ) (low high low′ high′ : List ℕ) → Only f only → PutSo old s f left low high → mem left h ≡ true
-    → Put (inRow low high) h only low′ high′ → Removed left h left′ → PutSo old s f left′ low′ high′
-put-more old s only left left′ f h low high low′ high′ is p m put r =
+pub put-more : (old : ℕ → ℕ → Bool) (s only : NodeSet) {left left′ : NodeSet} (f : ℕ) {h : ℕ} {low high low′ high′ : List ℕ} → Only f only → PutSo old s f left low high
+    → Lowest left h left′ → Put (inRow low high) h only low′ high′ → PutSo old s f left′ low′ high′
+put-more old s only f {h} is p first put =
     record {
       long = put .long;
-      of-set = λ k e. p .of-set k (removed-member left h left′ r k e .0);
+      of-set = λ k e. p .of-set k (removed-member _ _ _ (first .others) k e .0);
       row-is = λ a b.
           put .row-is a b
-          ∙ rw (is b, p .row-is a b, r a)
+          ∙ rw (is b, p .row-is a b, first .others a)
           (by-bool (eqb a h)
           (λ (e : eqb a h ≡ true).
           let q : a ≡ h = eqb-true a h e in
-          rw (e, q, p .of-set h m, m))
+          rw (e, q, p .of-set h (first .in-set), first .in-set))
           (λ (e : eqb a h ≡ false). rw e));
     }
 
-pub put-end : (old : ℕ → ℕ → Bool) (s left : NodeSet) (f : ℕ) (low high : List ℕ) → Small s → PutSo old s f left low high → ((k : ℕ) → k < 128 → mem left k ≡ false) → PutAll old s f low high
-put-end old s left f low high small p none =
+pub put-end : (old : ℕ → ℕ → Bool) (s : NodeSet) {left : NodeSet} (f : ℕ) {low high : List ℕ} → PutSo old s f left low high → Empty left → PutAll old s f low high
+put-end old s f p none =
     record {
       long = p .long;
-      row-is = λ a b.
-          p .row-is a b
-          ∙ by-bool (mem s a)
-          (λ t. rw (t, none a (small a t)))
-          (λ t. rw t);
+      row-is = λ a b. p .row-is a b ∙ rw (none a, and-true (mem s a));
     }
 
 -- the rows of the leaves: those of the nodes gone through
@@ -172,12 +157,11 @@ module _
     (low high low₁ high₁ low₂ high₂ : List ℕ)
     (y : ℕ)
     (so : NearSo below roots left low high)
-    (in-left : mem left y ≡ true)
+    (first : Lowest left y left′)
     (is-row : IsRow below y row)
     (is-both : Intersection row roots both)
     (put : Put (inRow low high) y both low₁ high₁)
-    (put-all : PutAll (inRow low₁ high₁) both y low₂ high₂)
-    (gone : Removed left y left′) where
+    (put-all : PutAll (inRow low₁ high₁) both y low₂ high₂) where
   row-now : (a b : ℕ) → inRow low₂ high₂ a b ≡ (mem both a && eqb b y || (eqb a y && mem both b || inRow low high a b))
   row-now a b = put-all .row-is a b ∙ rw (put .row-is a b)
 
@@ -190,10 +174,10 @@ module _
   both-intro k h r = is-both k ∙ rw (is-row k, h, r)
 
   in-roots : mem roots y ≡ true
-  in-roots = so .of-roots y in-left
+  in-roots = so .of-roots y (first .in-set)
 
   passed : mem left′ y ≡ false
-  passed = removed-gone left y left′ gone
+  passed = removed-gone left y left′ (first .others)
 
   near-found : (a b : ℕ) → inRow low₂ high₂ a b ≡ true → NearBy below roots left′ a b
   near-found a b e =
@@ -215,8 +199,8 @@ module _
         n .0,
         n .1,
         ⊎-elim
-            (λ (i : (mem left a ≡ false) × (below a b ≡ true)). inl (removed-out left y left′ gone a (i .0), i .1))
-            (λ (i : (mem left b ≡ false) × (below b a ≡ true)). inr (removed-out left y left′ gone b (i .0), i .1))
+            (λ (i : (mem left a ≡ false) × (below a b ≡ true)). inl (removed-out left y left′ (first .others) a (i .0), i .1))
+            (λ (i : (mem left b ≡ false) × (below b a ≡ true)). inr (removed-out left y left′ (first .others) b (i .0), i .1))
             (n .2),
       ))
       (or-cases (eqb a y && mem both b) (inRow low high a b) z))
@@ -227,13 +211,13 @@ module _
 
   near-put : (a b : ℕ) → NearBy below roots left′ a b → inRow low₂ high₂ a b ≡ true
   near-put a b (ra, rb, inl (n, e)) =
-      removed-cases left y left′ gone a n
+      removed-cases left y left′ (first .others) a n
       (λ (q : a ≡ y).
       let in-both : mem both b ≡ true = both-intro b (rw q at e) rb in
       row-now a b ∙ or-right (mem both a && eqb b y) (eqb a y && mem both b || inRow low high a b) (rw (eq-eqb a y q, in-both)))
       (λ o (m : mem left a ≡ false). old-row a b (so .near-is a b .1 (ra, rb, inl (m, e))))
   near-put a b (ra, rb, inr (n, e)) =
-      removed-cases left y left′ gone b n
+      removed-cases left y left′ (first .others) b n
       (λ (q : b ≡ y).
       let in-both : mem both a ≡ true = both-intro a (rw q at e) ra in
       row-now a b ∙ rw (eq-eqb b y q, in-both))
@@ -243,12 +227,12 @@ module _
   near-more =
       record {
         long = put-all .long;
-        of-roots = λ k h. so .of-roots k (removed-member left y left′ gone k h .0);
+        of-roots = λ k h. so .of-roots k (removed-member left y left′ (first .others) k h .0);
         near-is = λ a b. (near-found a b, near-put a b);
       }
 
-pub near-end : (below : ℕ → ℕ → Bool) (roots left : NodeSet) (low high : List ℕ) → Small roots → NearSo below roots left low high → ((k : ℕ) → k < 128 → mem left k ≡ false) → NearRows below (mem roots) low high
-near-end below roots left low high small so none =
+pub near-end : (below : ℕ → ℕ → Bool) (roots left : NodeSet) (low high : List ℕ) → NearSo below roots left low high → Empty left → NearRows below (mem roots) low high
+near-end below roots left low high so none =
     record {
       long = so .long;
       near-is = λ f h. (
@@ -266,8 +250,8 @@ near-end below roots left low high small so none =
               n .0,
               n .1,
               ⊎-elim
-                  (λ (e : below f h ≡ true). inl (none f (small f (n .0)), e))
-                  (λ (e : below h f ≡ true). inr (none h (small h (n .1)), e))
+                  (λ (e : below f h ≡ true). inl (none f, e))
+                  (λ (e : below h f ≡ true). inr (none h, e))
                   (n .2),
             ),
       );

@@ -7,7 +7,7 @@ use native.Mathlib.Omega.{arith}
 use borrow.Author.Tests.{not-true}
 use Rattle.base_finite.specs.Below.{any, count}
 use Rattle.base_finite.proofs.Laws.{by-bool, and-both, or-cases, or-left, or-right, any-found}
-use Rattle.base_nodeset.specs.Set.{mem, Empty, Removed, Union, Intersection, Difference}
+use Rattle.base_nodeset.specs.Set.{mem, Empty, Removed, Union, Intersection, Difference, Lowest}
 use Rattle.base_nodeset.specs.declared.NodeSet.{NodeSet}
 use Rattle.base_nodeset.proofs.Members.{Small, removed-member, removed-cases, removed-gone, removed-out, removed-other, one-less}
 use Rattle.base_tables.specs.Rows.{IsRow}
@@ -28,10 +28,10 @@ tops-start below rem =
       set-is = λ F. (λ h. (h, λ y m n. absurd (true≢false (sym m ∙ n))), λ h. h .0);
     }
 
-pub tops-more : (below : ℕ → ℕ → Bool) (rem left set row set′ left′ : NodeSet) (y : ℕ) → TopsSo below rem left set → mem left y ≡ true → IsRow below y row → Difference set row set′ → Removed left y left′ → TopsSo below rem left′ set′
-tops-more below rem left set row set′ left′ y t m is d r =
+pub tops-more : (below : ℕ → ℕ → Bool) (rem left set row set′ left′ : NodeSet) (y : ℕ) → TopsSo below rem left set → Lowest left y left′ → IsRow below y row → Difference set row set′ → TopsSo below rem left′ set′
+tops-more below rem left set row set′ left′ y t first is d =
     record {
-      of-rem = λ k h. t .of-rem k (removed-member left y left′ r k h .0);
+      of-rem = λ k h. t .of-rem k (removed-member left y left′ (first .others) k h .0);
       set-is = λ F. (
         λ h.
             let b = and-both (mem set F) (not (mem row F)) (sym (d F) ∙ h) in
@@ -39,21 +39,21 @@ tops-more below rem left set row set′ left′ y t m is d r =
             let clear : below y F ≡ false = sym (is F) ∙ not-true (mem row F) (b .1) in (
               s .0,
               λ z mz n e.
-                  removed-cases left y left′ r z n
+                  removed-cases left y left′ (first .others) z n
                   (λ (i : z ≡ y). true≢false (sym (rw i at e) ∙ clear))
                   (λ a (o : mem left z ≡ false). s .1 z mz o e),
             ),
         λ h.
-            let in-set : mem set F ≡ true = t .set-is F .1 (h .0, λ z mz n e. h .1 z mz (removed-out left y left′ r z n) e) in
+            let in-set : mem set F ≡ true = t .set-is F .1 (h .0, λ z mz n e. h .1 z mz (removed-out left y left′ (first .others) z n) e) in
             by-bool (mem row F)
-            (λ e. absurd (h .1 y (t .of-rem y m) (removed-gone left y left′ r) (sym (is F) ∙ e)))
+            (λ e. absurd (h .1 y (t .of-rem y (first .in-set)) (removed-gone left y left′ (first .others)) (sym (is F) ∙ e)))
             (λ e. d F ∙ rw (in-set, e)),
       );
     }
 
-pub tops-end : (below : ℕ → ℕ → Bool) (rem left set : NodeSet) → Small rem → TopsSo below rem left set → ((k : ℕ) → k < 128 → mem left k ≡ false) → Tops below rem set
-tops-end below rem left set small t none F = (
-  λ h. let s = t .set-is F .0 h in (s .0, λ y m e. s .1 y m (none y (small y m)) e),
+pub tops-end : (below : ℕ → ℕ → Bool) (rem left set : NodeSet) → TopsSo below rem left set → Empty left → Tops below rem set
+tops-end below rem left set t none F = (
+  λ h. let s = t .set-is F .0 h in (s .0, λ y m e. s .1 y m (none y) e),
   λ h. t .set-is F .1 (h .0, λ y m n e. h .1 y m e),
 )
 
@@ -74,10 +74,10 @@ apart-start below near within leaves seen e =
 
 module _
     (below near : ℕ → ℕ → Bool)
-    (within leaves left seen row both : NodeSet)
+    (within leaves left left′ seen row both : NodeSet)
     (l : ℕ)
     (a : ApartSo below near within leaves left seen)
-    (in-left : mem left l ≡ true)
+    (first : Lowest left l left′)
     (is-row : IsRow below l row)
     (is-both : Intersection row seen both) where
   -- something seen lies below l
@@ -88,15 +88,13 @@ module _
       let b = and-both (mem row f) (mem seen f) (sym (is-both f) ∙ x .2) in
       let s = a .seen-is f .0 (b .1) in
       let from : Spread near (mem within) (below l) f = start (sym (is-row f) ∙ b .0) (spread-within (s .3)) in
-      let same : l ≡ s .0 = ap′ l (s .0) f (a .of-leaves l in-left) (s .1) from (s .3) in
-      true≢false (sym in-left ∙ rw (← same) at (s .2))
+      let same : l ≡ s .0 = ap′ l (s .0) f (a .of-leaves l (first .in-set)) (s .1) from (s .3) in
+      true≢false (sym (first .in-set) ∙ rw (← same) at (s .2))
 
   module _
-      (left′ : NodeSet)
       (symmetric : Symmetric near)
       (small : Small within)
-      (none : (k : ℕ) → k < 128 → mem both k ≡ false)
-      (is-left′ : Removed left l left′) where
+      (none : (k : ℕ) → k < 128 → mem both k ≡ false) where
     -- a leaf gone through reaches nothing that l reaches
     never-both : (m f : ℕ) → mem leaves m ≡ true → mem left m ≡ false → Spread near (mem within) (below l) f → Spread near (mem within) (below m) f → ⊥
     never-both m f h n p q =
@@ -109,13 +107,13 @@ module _
     -- so l is apart too
     parted-more : (x y f : ℕ) → mem leaves x ≡ true → mem left′ x ≡ false → mem leaves y ≡ true → mem left′ y ≡ false → Spread near (mem within) (below x) f → Spread near (mem within) (below y) f → x ≡ y
     parted-more x y f hx nx hy ny p q =
-        removed-cases left l left′ is-left′ x nx
+        removed-cases left l left′ (first .others) x nx
         (λ (i : x ≡ l).
-        removed-cases left l left′ is-left′ y ny
+        removed-cases left l left′ (first .others) y ny
         (λ (j : y ≡ l). i ∙ sym j)
         (λ n o. absurd (never-both y f hy o (subst (λ (z : ℕ). Spread near (mem within) (below z) f) i p) q)))
         (λ n o.
-        removed-cases left l left′ is-left′ y ny
+        removed-cases left l left′ (first .others) y ny
         (λ (j : y ≡ l). absurd (never-both x f hx o (subst (λ (z : ℕ). Spread near (mem within) (below z) f) j q) p))
         (λ n′ o′. a .parted x y f hx o hy o′ p q))
 
@@ -133,16 +131,16 @@ module _
       pub apart-more : ApartSo below near within leaves left′ seen′
       apart-more =
           record {
-            of-leaves = λ k h. a .of-leaves k (removed-member left l left′ is-left′ k h .0);
+            of-leaves = λ k h. a .of-leaves k (removed-member left l left′ (first .others) k h .0);
             seen-is = λ f. (
               λ h.
                   ⊎-elim
-                  (λ (t : mem seen f ≡ true). let s = a .seen-is f .0 t in (s .0, s .1, removed-out left l left′ is-left′ (s .0) (s .2), s .3))
-                  (λ (t : mem joined f ≡ true). (l, a .of-leaves l in-left, removed-gone left l left′ is-left′, from-row (is-joined f .0 t)))
+                  (λ (t : mem seen f ≡ true). let s = a .seen-is f .0 t in (s .0, s .1, removed-out left l left′ (first .others) (s .0) (s .2), s .3))
+                  (λ (t : mem joined f ≡ true). (l, a .of-leaves l (first .in-set), removed-gone left l left′ (first .others), from-row (is-joined f .0 t)))
                   (or-cases (mem seen f) (mem joined f) (sym (is-seen′ f) ∙ h)),
               λ h.
                   is-seen′ f
-                  ∙ removed-cases left l left′ is-left′ (h .0) (h .2)
+                  ∙ removed-cases left l left′ (first .others) (h .0) (h .2)
                   (λ (i : h .0 ≡ l).
                   or-right (mem seen f) (mem joined f) (is-joined f .1 (to-row (subst (λ (z : ℕ). Spread near (mem within) (below z) f) i (h .3)))))
                   (λ n (o : mem left (h .0) ≡ false). or-left (mem seen f) (mem joined f) (a .seen-is f .1 (h .0, h .1, o, h .3))),
@@ -150,9 +148,8 @@ module _
             parted = parted-more;
           }
 
-pub apart-end : (below near : ℕ → ℕ → Bool) (within leaves left seen : NodeSet) → Small leaves → ApartSo below near within leaves left seen → ((k : ℕ) → k < 128 → mem left k ≡ false) → Apart below near (mem leaves) (mem within)
-apart-end below near within leaves left seen small a none l m f hl hm p q =
-    a .parted l m f hl (none l (small l hl)) hm (none m (small m hm)) p q
+pub apart-end : (below near : ℕ → ℕ → Bool) (within leaves left seen : NodeSet) → ApartSo below near within leaves left seen → Empty left → Apart below near (mem leaves) (mem within)
+apart-end below near within leaves left seen a none l m f hl hm p q = a .parted l m f hl (none l) hm (none m) p q
 
 -- the same leaves in the same set
 pub apart-same : (below near : ℕ → ℕ → Bool) (leaves leaves′ within within′ : ℕ → Bool) → ((k : ℕ) → leaves k ≡ leaves′ k) → ((k : ℕ) → within k ≡ within′ k)
@@ -208,27 +205,27 @@ round-fewer {below} {near} {leaves} {rem} {tops} {rest} {left} s =
     (λ (t : count 128 (mem rest) < count 128 (mem rem)). omega arith)
     (s .tried)
 
-pub round-more : (below near leaves : ℕ → ℕ → Bool) (rem tops rest left rest′ left′ : NodeSet) (f : ℕ) → Tops below rem tops → f < 128 → mem left f ≡ true
-    → RoundSo below near leaves rem tops rest left → Taken below near leaves rest f rest′ → Removed left f left′ → RoundSo below near leaves rem tops rest′ left′
-round-more below near leaves rem tops rest left rest′ left′ f is small m s (inl (apart, r)) d =
-    let here = s .of-tops f m in
+pub round-more : (below near leaves : ℕ → ℕ → Bool) (rem tops rest left rest′ left′ : NodeSet) (f : ℕ) → Tops below rem tops → Lowest left f left′
+    → RoundSo below near leaves rem tops rest left → Taken below near leaves rest f rest′ → RoundSo below near leaves rem tops rest′ left′
+round-more below near leaves rem tops rest left rest′ left′ f is first s (inl (apart, r)) =
+    let here = s .of-tops f (first .in-set) in
     let top = is f .0 (here .0) in
-    let less : count 128 (mem rest) ≡ count 128 (mem rest′) + 1 = one-less rest f rest′ small (here .1) r in
+    let less : count 128 (mem rest) ≡ count 128 (mem rest′) + 1 = one-less rest f rest′ (first .below) (here .1) r in
     record {
       taking = then-taken f (s .taking) (record { member = here .1; none-above = λ y h e. top .1 y (s .of-rem y h) e; one-leaf = apart }) r;
       of-rem = λ k h. s .of-rem k (removed-member rest f rest′ r k h .0);
       of-tops = λ k h.
-          let b = removed-member left f left′ d k h in
+          let b = removed-member left f left′ (first .others) k h in
           let o = s .of-tops k (b .0) in
           (o .0, removed-other rest f rest′ r k (b .1) ∙ o .1);
       tried = inr (omega (arith, round-fewer s));
     }
-round-more below near leaves rem tops rest left rest′ left′ f is small m s (inr (not-apart, same)) d =
+round-more below near leaves rem tops rest left rest′ left′ f is first s (inr (not-apart, same)) =
     record {
       taking = subst (λ (z : NodeSet). Taking below near leaves rem z) (sym same) (s .taking);
       of-rem = λ k h. s .of-rem k (rw same at h);
       of-tops = λ k h.
-          let o = s .of-tops k (removed-member left f left′ d k h .0) in
+          let o = s .of-tops k (removed-member left f left′ (first .others) k h .0) in
           (o .0, rw same (o .1));
       tried =
           ⊎-elim
@@ -236,7 +233,7 @@ round-more below near leaves rem tops rest left rest′ left′ f is small m s (
           inl (
             same ∙ t .0,
             λ F h n.
-                removed-cases left f left′ d F n
+                removed-cases left f left′ (first .others) F n
                 (λ (i : F ≡ f). rw (i, ← (t .0)) not-apart)
                 (λ o (x : mem left F ≡ false). t .1 F h x),
           ))
@@ -244,15 +241,15 @@ round-more below near leaves rem tops rest left rest′ left′ f is small m s (
           (s .tried);
     }
 
-pub round-end : (below near leaves : ℕ → ℕ → Bool) (rem tops rest left : NodeSet) → Small rem → Tops below rem tops → RoundSo below near leaves rem tops rest left → ((k : ℕ) → k < 128 → mem left k ≡ false) → Round below near leaves rem rest
-round-end below near leaves rem tops rest left small is s none =
+pub round-end : (below near leaves : ℕ → ℕ → Bool) (rem tops rest left : NodeSet) → Tops below rem tops → RoundSo below near leaves rem tops rest left → Empty left → Round below near leaves rem rest
+round-end below near leaves rem tops rest left is s none =
     record {
       taking = s .taking;
       fewer = round-fewer s;
       or-stuck = λ e F free.
           ⊎-elim
           (λ (t : (rest ≡ rem) × ((F : ℕ) → mem tops F ≡ true → mem left F ≡ false → Apart below near (leaves F) (others (mem rem) F) → ⊥)).
-          t .1 F (is F .1 (free .member, free .none-above)) (none F (small F (free .member))) (free .one-leaf))
+          t .1 F (is F .1 (free .member, free .none-above)) (none F) (free .one-leaf))
           (λ (t : count 128 (mem rest) < count 128 (mem rem)). absurd (omega arith))
           (s .tried);
     }

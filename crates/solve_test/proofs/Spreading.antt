@@ -7,9 +7,9 @@ use mathlib.Core.Logic.{_⊎_, inl, inr, ⊎-elim}
 use borrow.Author.Tests.{not-true}
 use Rattle.base_finite.specs.Below.{count}
 use Rattle.base_finite.proofs.Laws.{by-bool, and-both, or-cases, or-none, or-left, count-one-more}
-use Rattle.base_nodeset.specs.Set.{mem, Removed, Union, Intersection, Difference}
+use Rattle.base_nodeset.specs.Set.{mem, Empty, Union, Intersection, Difference, Lowest}
 use Rattle.base_nodeset.specs.declared.NodeSet.{NodeSet}
-use Rattle.base_nodeset.proofs.Members.{Small, removed-member, removed-cases, removed-gone, removed-other}
+use Rattle.base_nodeset.proofs.Members.{removed-member, removed-cases, removed-gone, removed-other}
 use Rattle.solve_test.specs.Tables.{Symmetric}
 use Rattle.solve_test.specs.Free.{Spread, start, step, Spreads}
 
@@ -61,10 +61,9 @@ module _
     (pending unseen new rest pending′ unseen′ row : NodeSet)
     (f : ℕ)
     (g : Growing near within from (mem pending) (mem unseen))
-    (is-pending : mem pending f ≡ true)
+    (first : Lowest pending f rest)
     (is-row : (v : ℕ) → mem row v ≡ near f v)
     (is-new : Intersection row unseen new)
-    (is-rest : Removed pending f rest)
     (is-pending′ : Union rest new pending′)
     (is-unseen′ : Difference unseen new unseen′) where
   new-parts : (k : ℕ) → mem new k ≡ true → (near f k ≡ true) × (mem unseen k ≡ true)
@@ -88,18 +87,18 @@ module _
   pending-cases : (k : ℕ) → mem pending′ k ≡ true → (mem pending k ≡ true) ⊎ (mem new k ≡ true)
   pending-cases k e =
       ⊎-elim
-      (λ (t : mem rest k ≡ true). inl (removed-member pending f rest is-rest k t .0))
+      (λ (t : mem rest k ≡ true). inl (removed-member pending f rest (first .others) k t .0))
       (λ (t : mem new k ≡ true). inr t)
       (or-cases (mem rest k) (mem new k) (sym (is-pending′ k) ∙ e))
 
   found : Spread near within from f
-  found = g .reached f (g .pending-within f is-pending) (g .parted f is-pending)
+  found = g .reached f (g .pending-within f (first .in-set)) (g .parted f (first .in-set))
 
   goes-on : (x h : ℕ) → within x ≡ true → mem unseen′ x ≡ false → mem pending′ x ≡ false → near x h ≡ true → within h ≡ true → mem unseen′ h ≡ false
   goes-on x h w u p n v =
       let b = or-none (mem rest x) (mem new x) (sym (is-pending′ x) ∙ p) in
       let seen : mem unseen x ≡ false = ⊎-elim (λ (t : mem unseen x ≡ false). t) (λ (t : mem new x ≡ true). absurd (true≢false (sym t ∙ b .1))) (seen-cases x u) in
-      removed-cases pending f rest is-rest x (b .0)
+      removed-cases pending f rest (first .others) x (b .0)
       (λ (i : x ≡ f).
       let near-f : near f h ≡ true = rw i at n in
       by-bool (mem unseen h)
@@ -123,14 +122,14 @@ module _
       }
 
   -- pending and unseen together lose f
-  pub fewer-open : f < 128 → count 128 (λ k. mem pending k || mem unseen k) ≡ count 128 (λ k. mem pending′ k || mem unseen′ k) + 1
-  fewer-open small =
-      count-one-more 128 (λ k. mem pending′ k || mem unseen′ k) (λ k. mem pending k || mem unseen k) f small
-      (rw (is-pending′ f, removed-gone pending f rest is-rest, is-unseen′ f, is-new f, g .parted f is-pending)
+  pub fewer-open : count 128 (λ k. mem pending k || mem unseen k) ≡ count 128 (λ k. mem pending′ k || mem unseen′ k) + 1
+  fewer-open =
+      count-one-more 128 (λ k. mem pending′ k || mem unseen′ k) (λ k. mem pending k || mem unseen k) f (first .below)
+      (rw (is-pending′ f, removed-gone pending f rest (first .others), is-unseen′ f, is-new f, g .parted f (first .in-set))
       (by-bool (mem row f) (λ t. rw t) (λ t. rw t)))
-      (or-left (mem pending f) (mem unseen f) is-pending)
+      (or-left (mem pending f) (mem unseen f) (first .in-set))
       (λ k n.
-      rw (is-pending′ k, removed-other pending f rest is-rest k n, is-unseen′ k, is-new k)
+      rw (is-pending′ k, removed-other pending f rest (first .others) k n, is-unseen′ k, is-new k)
       (both (mem pending k) (mem row k) (mem unseen k)))
     where
       both : (p r u : Bool) → ((p || r && u) || u && not (r && u)) ≡ (p || u)
@@ -141,9 +140,9 @@ module _
       both false false false = refl
 
 -- with nothing pending, what is not unseen is what is reached
-pub grown : (near : ℕ → ℕ → Bool) (within pending₀ pending unseen r : NodeSet) → Small within → Growing near (mem within) (mem pending₀) (mem pending) (mem unseen) → ((k : ℕ) → k < 128 → mem pending k ≡ false) → Difference within unseen r
+pub grown : (near : ℕ → ℕ → Bool) (within pending₀ pending unseen r : NodeSet) → Growing near (mem within) (mem pending₀) (mem pending) (mem unseen) → Empty pending → Difference within unseen r
     → Spreads near (mem within) (mem pending₀) r
-grown near within pending₀ pending unseen r small g none is f = (
+grown near within pending₀ pending unseen r g none is f = (
   λ h.
       let b = and-both (mem within f) (not (mem unseen f)) (sym (is f) ∙ h) in
       g .reached f (b .0) (not-true (mem unseen f) (b .1)),
@@ -153,8 +152,7 @@ grown near within pending₀ pending unseen r small g none is f = (
     seen : {k : ℕ} → Spread near (mem within) (mem pending₀) k → mem unseen k ≡ false
     seen (start {f = k} h w) = g .starts-seen k h
     seen (step {f = k} {h = h} s n w) =
-        let i = spread-within s in
-        g .gone-on k h i (seen s) (none k (small k i)) n w
+        g .gone-on k h (spread-within s) (seen s) (none k) n w
 
 -- from the part of a set that lies within, or from the set
 pub spread-from : (near : ℕ → ℕ → Bool) (from within both r : NodeSet) → Intersection from within both → Spreads near (mem within) (mem both) r → Spreads near (mem within) (mem from) r

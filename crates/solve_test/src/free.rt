@@ -1,6 +1,7 @@
 // Free fragments: which there are in a set, and that they can be taken out of it until none is left.
 use base_nodeset::NodeSet;
-use base_tables::rows::row;
+use base_nodeset::Popped;
+use base_tables::rows::set_at;
 ghost use mathlib.Core.Path.{_≡_};
 ghost use mathlib.Core.Bool.{true};
 ghost use mathlib.Core.Logic.{_↔_};
@@ -17,13 +18,14 @@ fn grow(near_low: &[u64], near_high: &[u64], from: NodeSet, within: NodeSet) -> 
 {
     let mut pending = from.intersection(within);
     let mut unseen = within.difference(from);
-    while !pending.is_empty() {
-        let f = pending.lowest();
-        let new = row(near_low, near_high, f).intersection(unseen);
-        pending = pending.without(f).union(new);
+    loop {
+        let Popped::Member(f, rest) = pending.pop() else {
+            return within.difference(unseen);
+        };
+        let new = set_at(near_low, near_high, f).intersection(unseen);
+        pending = rest.union(new);
         unseen = unseen.difference(new);
     }
-    within.difference(unseen)
 }
 
 // Nothing within is joined to two of the leaves. What is joined to the last one need not be known.
@@ -43,20 +45,21 @@ fn apart(
 {
     let mut left = leaves;
     let mut seen = NodeSet::empty();
-    while !left.is_empty() {
-        let l = left.lowest();
-        let below = row(low, high, l);
+    loop {
+        let Popped::Member(l, rest) = left.pop() else {
+            return true;
+        };
+        let below = set_at(low, high, l);
         if !below.intersection(seen).is_empty() {
             return false;
         }
-        left = left.without(l);
-        if left.is_empty() {
+        if rest.is_empty() {
             return true;
         }
         let joined = grow(near_low, near_high, below, within);
         seen = seen.union(joined);
+        left = rest;
     }
-    true
 }
 
 // The members that no member stands above.
@@ -66,12 +69,13 @@ fn tops(low: &[u64], high: &[u64], rem: NodeSet) -> NodeSet
 {
     let mut left = rem;
     let mut set = rem;
-    while !left.is_empty() {
-        let y = left.lowest();
-        set = set.difference(row(low, high, y));
-        left = left.without(y);
+    loop {
+        let Popped::Member(y, rest) = left.pop() else {
+            return set;
+        };
+        set = set.difference(set_at(low, high, y));
+        left = rest;
     }
-    set
 }
 
 // The set without f, where nothing else in it is joined to two leaves of f.
@@ -93,7 +97,7 @@ fn take(
         ⌝ }
 {
     let others = rem.without(f);
-    let leaves = row(leaf_low, leaf_high, f);
+    let leaves = set_at(leaf_low, leaf_high, f);
     if apart(low, high, near_low, near_high, leaves, others) {
         others
     } else {
@@ -118,14 +122,15 @@ fn round(
         (inRow (now («leaf_low» .entry)) (now («leaf_high» .entry))) rem r
         ⌝ }
 {
-    let mut rest = rem;
+    let mut kept = rem;
     let mut left = tops(low, high, rem);
-    while !left.is_empty() {
-        let f = left.lowest();
-        rest = take(low, high, near_low, near_high, leaf_low, leaf_high, rest, f);
-        left = left.without(f);
+    loop {
+        let Popped::Member(f, rest) = left.pop() else {
+            return kept;
+        };
+        kept = take(low, high, near_low, near_high, leaf_low, leaf_high, kept, f);
+        left = rest;
     }
-    rest
 }
 
 // Rounds until no fragment is left, or a round takes none.

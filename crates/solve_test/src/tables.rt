@@ -1,6 +1,8 @@
 // What the test looks up: the leaves of each fragment, the roots comparable with a root.
 use base_nodeset::NodeSet;
-use base_tables::rows::row;
+use base_nodeset::Popped;
+use base_tables::rows::put_at;
+use base_tables::rows::set_at;
 use base_tables::trees::own;
 ghost use Prim.Native.Nat.{_<_};
 ghost use Rattle.base_nodeset.specs.Set.{mem};
@@ -13,9 +15,8 @@ fn put(low: &mut [u64], high: &mut [u64], u: usize, set: NodeSet)
     requires { ⌜ Long (now low) (now high) × (u < 128) ⌝ }
     ensures { λ _. ⌜ Put (inRow (now (low .entry)) (now (high .entry))) u set (now (low .exit)) (now (high .exit)) ⌝ }
 {
-    let more = row(low, high, u).union(set);
-    low[u] = more.low;
-    high[u] = more.high;
+    let more = set_at(low, high, u).union(set);
+    put_at(low, high, u, more);
 }
 
 // Each leaf in the row of its fragment's root.
@@ -36,10 +37,12 @@ fn put_all(set: NodeSet, f: usize, low: &mut [u64], high: &mut [u64])
 {
     let only = NodeSet::only(f);
     let mut left = set;
-    while !left.is_empty() {
-        let h = left.lowest();
+    loop {
+        let Popped::Member(h, rest) = left.pop() else {
+            return;
+        };
         put(low, high, h, only);
-        left = left.without(h);
+        left = rest;
     }
 }
 
@@ -55,11 +58,13 @@ pub fn near_rows(
     ensures { λ _. ⌜ NearRows (inRow (now («below_low» .entry)) (now («below_high» .entry))) (mem roots) (now (low .exit)) (now (high .exit)) ⌝ }
 {
     let mut left = roots;
-    while !left.is_empty() {
-        let f = left.lowest();
-        let below = row(below_low, below_high, f).intersection(roots);
+    loop {
+        let Popped::Member(f, rest) = left.pop() else {
+            return;
+        };
+        let below = set_at(below_low, below_high, f).intersection(roots);
         put(low, high, f, below);
         put_all(below, f, low, high);
-        left = left.without(f);
+        left = rest;
     }
 }

@@ -1,5 +1,5 @@
 use denote.Ref.{now}
-use lib.ListN.{getD, length}
+use lib.ListN.{length}
 use Rattle.sheet_encode.specs.Tidy.{rowBytes, dominancePart}
 use Rattle.sheet_encode.proofs.Runs.{dominance-part-none, dominance-part-more, dominance-part-longer}
 use Prim.Native.Nat.{_+_, _-_, _≤_}
@@ -20,29 +20,20 @@ abbrev μ-loop : tie.MeasureT-loop
 loop-holds : tie.Need-loop-holds Inv-loop μ-loop
 loop-holds c = (omega arith, refl, rw dominance-part-none (written-none _ _))
 
-mul-t10 : tie.Need-mul-t10 Inv-loop μ-loop
-mul-t10 c = search needs
-
-shared-slice-read-t12 : tie.Need-shared-slice-read-t12 Inv-loop μ-loop
-shared-slice-read-t12 c = search needs
-
-mul-t13 : tie.Need-mul-t13 Inv-loop μ-loop
-mul-t13 c = search needs
-
-shared-slice-read-t15 : tie.Need-shared-slice-read-t15 Inv-loop μ-loop
-shared-slice-read-t15 c = search needs
+set-at-requires : tie.Need-set-at-requires Inv-loop μ-loop
+set-at-requires c κs = search needs
 
 cast-write-row : tie.Need-cast-write-row Inv-loop μ-loop
 cast-write-row c = search needs
 
 write-row-requires : tie.Need-write-row-requires Inv-loop μ-loop
 write-row-requires c κs =
-    let l = c .before .before .before .before .loop in
-    let a = c .before .before .before .before .before .before .before .before in
-    let low = a .args .low .now in
-    let high = a .args .high .now in
-    let whole = dominance-part-longer (l .l + 1) (a .args .n) low high (omega arith) in
-    let fits = room (a .args .out .now) (a .args .start) (dominancePart (l .l) low high) (l .out) (l .at) (rowBytes (l .l) (record { low = getD low (l .l) 0; high = getD high (l .l) 0 })) (dominancePart (a .args .n) low high) (l .inv .2) (rw dominance-part-more at whole) (a .pre .3) in
+    let l = c .before .before .before .loop in
+    let low = now (c .before .before .before .before .before .before .before .args .low) in
+    let high = now (c .before .before .before .before .before .before .before .args .high) in
+    let whole = dominance-part-longer (l .l + 1) (c .before .before .before .before .before .before .before .args .n) low high (omega arith) in
+    let part = dominance-part-more (l .l) low high (c .before .set-at .result) (c .before .set-at .ensures) in
+    let fits = room (now (c .before .before .before .before .before .before .before .args .out)) (c .before .before .before .before .before .before .before .args .start) (dominancePart (l .l) low high) (l .out) (l .at) (rowBytes (l .l) (c .before .set-at .result)) (dominancePart (c .before .before .before .before .before .before .before .args .n) low high) (l .inv .2) (rw part at whole) (c .before .before .before .before .before .before .before .pre .3) in
     omega (arith, fits)
 
 add-l : tie.Need-add-l Inv-loop μ-loop
@@ -53,11 +44,11 @@ loop-less c = search needs
 
 loop-again : tie.Need-loop-again Inv-loop μ-loop
 loop-again c =
-    let l = c .before .before .before .before .before .before .before .loop in
+    let l = c .before .before .before .before .before .before .loop in
     let k = c .before .before .write-row in (
       omega arith,
       k .kept .1 .1 .0 ∙ l .inv .1,
-      rw dominance-part-more (written-more _ _ _ (l .out) (l .at) _ _ _ (l .inv .2) (k .ensures)),
+      rw (dominance-part-more (l .l) (now (c .before .before .before .before .before .before .before .before .before .before .args .low)) (now (c .before .before .before .before .before .before .before .before .before .before .args .high)) _ (c .before .before .before .before .set-at .ensures)) (written-more _ _ _ (l .out) (l .at) _ _ _ (l .inv .2) (k .ensures)),
     )
 
 same-length : tie.Need-same-length Inv-loop μ-loop
@@ -76,10 +67,7 @@ write-dominance-spec =
     Inv-loop
     μ-loop
     loop-holds
-    mul-t10
-    shared-slice-read-t12
-    mul-t13
-    shared-slice-read-t15
+    set-at-requires
     cast-write-row
     write-row-requires
     add-l

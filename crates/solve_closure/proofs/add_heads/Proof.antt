@@ -3,9 +3,9 @@ use Prim.Native.Nat.{_-_, _≤_}
 use mathlib.Core.Path.{_≡_}
 use native.Mathlib.Omega.{arith}
 use denote.Ref.{now}
-use borrow.Author.Needs.{needs}
 use Rattle.solve_closure.specs.Closing.{headIn, Adds}
 use Rattle.solve_closure.proofs.Edges.{adds-ext, adds-none, adds-more, head-none, head-more, head-from}
+use borrow.Author.Needs.{needs}
 use Rattle.solve_closure.proofs.add_heads.Statement.{statement}
 use Rattle.solve_closure.proofs.add_heads.Tie as tie
 
@@ -20,8 +20,8 @@ loop-holds c =
     let a = c .before .before .before .before .args in
     (omega arith, adds-none _ _ _ _ (head-none (now (a .heads-low)) (now (a .heads-high))))
 
-row-requires : tie.Need-row-requires Inv-loop μ-loop
-row-requires c κs = search needs
+set-at-requires : tie.Need-set-at-requires Inv-loop μ-loop
+set-at-requires c κs = search needs
 
 add-row-requires : tie.Need-add-row-requires Inv-loop μ-loop
 add-row-requires c κs = search needs
@@ -38,7 +38,7 @@ loop-again c =
     let a = c .before .before .before .before .before .before .before .before .before .before .before .before .before .before .args in (
       omega arith,
       adds-ext
-          (head-more (l .l) (now (a .heads-low)) (now (a .heads-high)) _ (c .before .before .before .before .before .before .before .row .ensures))
+          (head-more (l .l) (now (a .heads-low)) (now (a .heads-high)) _ (c .before .before .before .before .before .before .before .set-at .ensures))
           (adds-more
           (head-from (a .n) (l .l) (now (a .heads-low)) (now (a .heads-high)) (omega arith))
           (l .inv .1)
@@ -64,7 +64,7 @@ add-heads-spec =
     Inv-loop
     μ-loop
     loop-holds
-    row-requires
+    set-at-requires
     add-row-requires
     add-l
     loop-less

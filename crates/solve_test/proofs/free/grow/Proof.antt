@@ -1,12 +1,11 @@
 -- The loop keeps `Growing`; pending and unseen together lose a node in each turn.
 use mathlib.Core.Bool.{_||_}
 use native.Mathlib.Omega.{arith}
-use borrow.Author.Needs.{needs}
 use Rattle.base_finite.specs.Below.{count}
 use Rattle.base_nodeset.specs.Set.{mem}
-use Rattle.base_nodeset.proofs.Members.{small-set, no-member, lowest-in}
 use Rattle.base_tables.specs.Rows.{inRow}
 use Rattle.solve_test.proofs.Spreading.{Growing, growing-starts, growing-on, fewer-open, grown, spread-from}
+use borrow.Author.Needs.{needs}
 use Rattle.solve_test.proofs.free.grow.Statement.{statement}
 use Rattle.solve_test.proofs.free.grow.Tie as tie
 
@@ -27,69 +26,53 @@ loop-holds c =
     let a = c .before .before .before .before .args in
     growing-starts _ (a .from) (a .within) (c .before .intersection .result) (c .difference .result) (c .before .intersection .ensures) (c .difference .ensures)
 
-is-empty-requires : tie.Need-is-empty-requires Inv-loop μ-loop
-is-empty-requires c κs = search needs
+pop-requires : tie.Need-pop-requires Inv-loop μ-loop
+pop-requires c κs = search needs
 
-lowest-requires : tie.Need-lowest-requires Inv-loop μ-loop
-lowest-requires c κs = search needs
+enum-known-f : tie.Need-enum-known-f Inv-loop μ-loop
+enum-known-f c = search needs
 
-row-requires : tie.Need-row-requires Inv-loop μ-loop
-row-requires c κs =
-    let e = c .before .before in
-    let x = lowest-in (e .before .loop .pending) _ (c .lowest .result) (e .is-empty .ensures) (c .before .if1 .taken) (c .lowest .ensures) in
-    (e .before .before .before .before .before .before .pre, x .0)
-
-intersection-requires-2 : tie.Need-intersection-requires-2 Inv-loop μ-loop
-intersection-requires-2 c κs = search needs
-
-without-requires : tie.Need-without-requires Inv-loop μ-loop
-without-requires c κs =
-    let k = c .before .before in
-    let e = k .before .before in
-    lowest-in (e .before .loop .pending) _ (k .lowest .result) (e .is-empty .ensures) (k .before .if1 .taken) (k .lowest .ensures) .0
-
-union-requires : tie.Need-union-requires Inv-loop μ-loop
-union-requires c κs = search needs
+enum-told : tie.Need-enum-told Inv-loop μ-loop
+enum-told c = search needs
 
 difference-requires-2 : tie.Need-difference-requires-2 Inv-loop μ-loop
 difference-requires-2 c κs = search needs
 
-loop-less : tie.Need-loop-less Inv-loop μ-loop
-loop-less c =
-    let d = c .before .before .before in
-    let k = d .before .before in
-    let e = k .before .before in
-    let l = e .before .loop in
-    let x = lowest-in (l .pending) _ (k .lowest .result) (e .is-empty .ensures) (k .before .if1 .taken) (k .lowest .ensures) in
-    omega (
-      arith,
-      fewer-open _ _ _ (l .pending) (l .unseen) (d .intersection2 .result) (c .before .before .without .result) (c .before .union .result) (c .difference2 .result) (d .before .row .result)
-          (k .lowest .result) (l .inv) (x .1) (d .before .row .ensures) (d .intersection2 .ensures) (c .before .before .without .ensures) (c .before .union .ensures) (c .difference2 .ensures) (x .0),
-    )
+returns : tie.Need-returns Inv-loop μ-loop
+returns c =
+    let l = c .before .before .before .before .loop in
+    let a = c .before .before .before .before .before .before .before .before .before .args in
+    spread-from _ (a .from) (a .within) (c .before .before .before .before .before .before .intersection .result) (c .difference2 .result) (c .before .before .before .before .before .before .intersection .ensures)
+    (grown _ (a .within) (c .before .before .before .before .before .before .intersection .result) (l .pending) (l .unseen) (c .difference2 .result) (l .inv) (c .before .before .before .pop .ensures .empty (c .before .enum-told .given .1)) (c .difference2 .ensures))
 
-loop-again : tie.Need-loop-again Inv-loop μ-loop
-loop-again c =
-    let d = c .before .before .before in
-    let k = d .before .before in
-    let e = k .before .before in
-    let l = e .before .loop in
-    let x = lowest-in (l .pending) _ (k .lowest .result) (e .is-empty .ensures) (k .before .if1 .taken) (k .lowest .ensures) in
-    growing-on _ _ _ (l .pending) (l .unseen) (d .intersection2 .result) (c .before .before .without .result) (c .before .union .result) (c .difference2 .result) (d .before .row .result)
-    (k .lowest .result) (l .inv) (x .1) (d .before .row .ensures) (d .intersection2 .ensures) (c .before .before .without .ensures) (c .before .union .ensures) (c .difference2 .ensures)
+set-at-requires : tie.Need-set-at-requires Inv-loop μ-loop
+set-at-requires c κs =
+    let first = c .before .before .before .pop .ensures .lowest _ _ (c .before .f .given .1) in
+    search needs
+
+intersection-requires-2 : tie.Need-intersection-requires-2 Inv-loop μ-loop
+intersection-requires-2 c κs = search needs
+
+union-requires : tie.Need-union-requires Inv-loop μ-loop
+union-requires c κs = search needs
 
 difference-requires-3 : tie.Need-difference-requires-3 Inv-loop μ-loop
 difference-requires-3 c κs = search needs
 
-returns : tie.Need-returns Inv-loop μ-loop
-returns c =
-    let e = c .before .before in
-    let l = e .before .loop in
-    let p = e .before .before .before in
-    let s = p .before .before .before in
-    let a = s .args in
-    spread-from _ (a .from) (a .within) (p .intersection .result) (c .difference3 .result) (p .intersection .ensures)
-    (grown _ (a .within) (p .intersection .result) (l .pending) (l .unseen) (c .difference3 .result) (small-set (a .within) (omega (arith, s .good))) (l .inv)
-    (no-member (l .pending) _ (e .is-empty .ensures) (c .before .if1 .left)) (c .difference3 .ensures))
+loop-less : tie.Need-loop-less Inv-loop μ-loop
+loop-less c =
+    let first = c .before .before .before .before .before .before .before .pop .ensures .lowest _ _ (c .before .before .before .before .before .f .given .1) in
+    omega (
+      arith,
+      fewer-open _ _ _ _ (c .before .before .before .before .before .before .before .before .loop .unseen) (c .before .before .intersection2 .result) _ (c .before .union .result) (c .difference3 .result) (c .before .before .before .set-at .result)
+          _ (c .before .before .before .before .before .before .before .before .loop .inv) first (c .before .before .before .set-at .ensures) (c .before .before .intersection2 .ensures) (c .before .union .ensures) (c .difference3 .ensures),
+    )
+
+loop-again : tie.Need-loop-again Inv-loop μ-loop
+loop-again c =
+    let first = c .before .before .before .before .before .before .before .pop .ensures .lowest _ _ (c .before .before .before .before .before .f .given .1) in
+    growing-on _ _ _ _ (c .before .before .before .before .before .before .before .before .loop .unseen) (c .before .before .intersection2 .result) _ (c .before .union .result) (c .difference3 .result) (c .before .before .before .set-at .result)
+    _ (c .before .before .before .before .before .before .before .before .loop .inv) first (c .before .before .before .set-at .ensures) (c .before .before .intersection2 .ensures) (c .before .union .ensures) (c .difference3 .ensures)
 
 pub grow-spec : {M : Type 1} → statement M
 grow-spec =
@@ -100,14 +83,14 @@ grow-spec =
     intersection-requires
     difference-requires
     loop-holds
-    is-empty-requires
-    lowest-requires
-    row-requires
-    intersection-requires-2
-    without-requires
-    union-requires
+    pop-requires
+    enum-known-f
+    enum-told
     difference-requires-2
-    loop-less
-    loop-again
+    returns
+    set-at-requires
+    intersection-requires-2
+    union-requires
     difference-requires-3
-    returns)
+    loop-less
+    loop-again)

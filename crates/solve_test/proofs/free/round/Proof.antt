@@ -1,75 +1,47 @@
 -- The tops gone through were tried, and those that were free are taken out.
 use native.Mathlib.Omega.{arith}
-use borrow.Author.Needs.{needs}
 use Rattle.base_finite.specs.Below.{count}
 use Rattle.base_nodeset.specs.Set.{mem}
-use Rattle.base_nodeset.proofs.Members.{small-set, no-member, lowest-in, one-less}
 use Rattle.base_tables.specs.Rows.{inRow}
 use Rattle.solve_test.proofs.Rounds.{RoundSo, round-start, round-more, round-end}
+use borrow.Author.Needs.{needs}
 use Rattle.solve_test.proofs.free.round.Statement.{statement}
 use Rattle.solve_test.proofs.free.round.Tie as tie
 
 abbrev Inv-loop : tie.InvT-loop
-Inv-loop low high near-low near-high leaf-low leaf-high rest₀ left₀ rest left = RoundSo (inRow low high) (inRow near-low near-high) (inRow leaf-low leaf-high) rest₀ left₀ rest left
+Inv-loop low high near-low near-high leaf-low leaf-high kept₀ left₀ kept left = RoundSo (inRow low high) (inRow near-low near-high) (inRow leaf-low leaf-high) kept₀ left₀ kept left
 
 abbrev μ-loop : tie.MeasureT-loop
-μ-loop low high near-low near-high leaf-low leaf-high rest₀ left₀ rest left = count 128 (mem left)
+μ-loop low high near-low near-high leaf-low leaf-high kept₀ left₀ kept left = count 128 (mem left)
 
 tops-requires : tie.Need-tops-requires Inv-loop μ-loop
-tops-requires c κs =
-    let s = c .before .before .before .before .before .before in
-    s .pre .0 .0
+tops-requires c κs = c .before .before .before .before .before .before .pre .0 .0
 
 loop-holds : tie.Need-loop-holds Inv-loop μ-loop
-loop-holds c =
-    let s = c .before .before .before .before .before .before .before in
-    round-start _ _ _ (s .args .rem) (c .tops .result) (c .tops .ensures)
+loop-holds c = round-start _ _ _ (c .before .before .before .before .before .before .before .args .rem) (c .tops .result) (c .tops .ensures)
 
-is-empty-requires : tie.Need-is-empty-requires Inv-loop μ-loop
-is-empty-requires c κs = search needs
+pop-requires : tie.Need-pop-requires Inv-loop μ-loop
+pop-requires c κs = search needs
 
-lowest-requires : tie.Need-lowest-requires Inv-loop μ-loop
-lowest-requires c κs = search needs
+enum-known-f : tie.Need-enum-known-f Inv-loop μ-loop
+enum-known-f c = search needs
+
+enum-told : tie.Need-enum-told Inv-loop μ-loop
+enum-told c = search needs
+
+returns : tie.Need-returns Inv-loop μ-loop
+returns c = round-end _ _ _ (c .before .before .before .before .before .before .before .before .before .before .before .args .rem) (c .before .before .before .before .tops .result) (c .before .before .before .loop .kept) (c .before .before .before .loop .left) (c .before .before .before .before .tops .ensures) (c .before .before .before .loop .inv) (c .before .before .pop .ensures .empty (c .enum-told .given .1))
 
 take-requires : tie.Need-take-requires Inv-loop μ-loop
-take-requires c κs =
-    let e = c .before .before in
-    let l = e .before .loop in
-    let s = e .before .before .before .before .before .before .before .before .before in
-    ((s .pre .0 .0, s .pre .0 .1, s .pre .0 .2, lowest-in (l .left) _ (c .lowest .result) (e .is-empty .ensures) (c .before .if1 .taken) (c .lowest .ensures) .0), s .pre .1)
-
-without-requires : tie.Need-without-requires Inv-loop μ-loop
-without-requires c κs =
-    let k = c .before in
-    let e = k .before .before in
-    let l = e .before .loop in
-    lowest-in (l .left) _ (k .lowest .result) (e .is-empty .ensures) (k .before .if1 .taken) (k .lowest .ensures) .0
+take-requires c κs = ((c .before .before .before .before .before .before .before .before .before .before .before .before .pre .0 .0, c .before .before .before .before .before .before .before .before .before .before .before .before .pre .0 .1, c .before .before .before .before .before .before .before .before .before .before .before .before .pre .0 .2, c .before .before .before .pop .ensures .lowest _ _ (c .before .f .given .1) .below), c .before .before .before .before .before .before .before .before .before .before .before .before .pre .1)
 
 loop-less : tie.Need-loop-less Inv-loop μ-loop
 loop-less c =
-    let k = c .before .before in
-    let e = k .before .before in
-    let l = e .before .loop in
-    let x = lowest-in (l .left) _ (k .lowest .result) (e .is-empty .ensures) (k .before .if1 .taken) (k .lowest .ensures) in
-    omega (arith, one-less (l .left) (k .lowest .result) (c .without .result) (x .0) (x .1) (c .without .ensures))
+    let first = c .before .before .before .before .pop .ensures .lowest _ _ (c .before .before .f .given .1) in
+    omega arith
 
 loop-again : tie.Need-loop-again Inv-loop μ-loop
-loop-again c =
-    let k = c .before .before in
-    let e = k .before .before in
-    let l = e .before .loop in
-    let t = e .before .before .tops in
-    let s = e .before .before .before .before .before .before .before .before .before in
-    let x = lowest-in (l .left) _ (k .lowest .result) (e .is-empty .ensures) (k .before .if1 .taken) (k .lowest .ensures) in
-    round-more _ _ _ (s .args .rem) (t .result) (l .rest) (l .left) (c .before .take .result) (c .without .result) (k .lowest .result) (t .ensures) (x .0) (x .1) (l .inv) (c .before .take .ensures) (c .without .ensures)
-
-returns : tie.Need-returns Inv-loop μ-loop
-returns c =
-    let e = c .before in
-    let l = e .before .loop in
-    let t = e .before .before .tops in
-    let s = e .before .before .before .before .before .before .before .before .before in
-    round-end _ _ _ (s .args .rem) (t .result) (l .rest) (l .left) (small-set (s .args .rem) (omega (arith, s .good))) (t .ensures) (l .inv) (no-member (l .left) _ (e .is-empty .ensures) (c .if1 .left))
+loop-again c = round-more _ _ _ (c .before .before .before .before .before .before .before .before .before .before .before .before .before .args .rem) (c .before .before .before .before .before .before .tops .result) (c .before .before .before .before .before .loop .kept) _ (c .take .result) _ _ (c .before .before .before .before .before .before .tops .ensures) (c .before .before .before .before .pop .ensures .lowest _ _ (c .before .before .f .given .1)) (c .before .before .before .before .before .loop .inv) (c .take .ensures)
 
 pub round-spec : {M : Type 1} → statement M
 round-spec =
@@ -79,10 +51,10 @@ round-spec =
     μ-loop
     tops-requires
     loop-holds
-    is-empty-requires
-    lowest-requires
+    pop-requires
+    enum-known-f
+    enum-told
+    returns
     take-requires
-    without-requires
     loop-less
-    loop-again
-    returns)
+    loop-again)

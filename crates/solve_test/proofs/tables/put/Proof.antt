@@ -1,27 +1,17 @@
--- One store into each word of the row.
-use denote.Ref.{now}
-use borrow.Author.Needs.{needs}
+-- The union of both stored in the row.
 use Rattle.solve_test.proofs.Filled.{put-row}
+use borrow.Author.Needs.{needs}
 use Rattle.solve_test.proofs.tables.put.Statement.{statement}
 use Rattle.solve_test.proofs.tables.put.Tie as tie
 
-row-requires : tie.Need-row-requires
-row-requires c κs = search needs
+set-at-requires : tie.Need-set-at-requires
+set-at-requires c κs = search needs
 
 union-requires : tie.Need-union-requires
 union-requires c κs = search needs
 
-mul-low : tie.Need-mul-low
-mul-low c = search needs
-
-slice-write-low : tie.Need-slice-write-low
-slice-write-low c = search needs
-
-mul-high : tie.Need-mul-high
-mul-high c = search needs
-
-slice-write-high : tie.Need-slice-write-high
-slice-write-high c = search needs
+put-at-requires : tie.Need-put-at-requires
+put-at-requires c κs = search needs
 
 same-length : tie.Need-same-length
 same-length c = search needs
@@ -30,20 +20,15 @@ same-length-2 : tie.Need-same-length-2
 same-length-2 c = search needs
 
 returns : tie.Need-returns
-returns c =
-    let k = c .before .before .before .before .before .before in
-    put-row (now (k .args .low)) (now (k .args .high)) (k .args .u) (k .args .set) (c .before .row .result) (c .union .result) (k .pre .0) (k .pre .1) (c .before .row .ensures) (c .union .ensures)
+returns c = put-row _ _ (c .before .before .before .before .before .before .before .before .set-at .result) (c .before .before .before .before .before .before .before .before .before .before .before .before .before .pre .0) (c .before .before .before .before .before .before .before .before .set-at .ensures) (c .before .before .before .before .before .before .before .union .ensures) (c .before .before .before .before .put-at .ensures)
 
 pub put-spec : {M : Type 1} → statement M
 put-spec =
     tie.close
     (tie.spec
-    row-requires
+    set-at-requires
     union-requires
-    mul-low
-    slice-write-low
-    mul-high
-    slice-write-high
+    put-at-requires
     same-length
     same-length-2
     returns)

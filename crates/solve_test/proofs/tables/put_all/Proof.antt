@@ -1,11 +1,10 @@
 -- The members gone through have f in their rows.
 use native.Mathlib.Omega.{arith}
-use borrow.Author.Needs.{needs}
 use Rattle.base_finite.specs.Below.{count}
 use Rattle.base_nodeset.specs.Set.{mem}
-use Rattle.base_nodeset.proofs.Members.{small-set, no-member, lowest-in, one-less}
 use Rattle.base_tables.specs.Rows.{inRow}
 use Rattle.solve_test.proofs.Filled.{PutSo, put-start, put-more, put-end}
+use borrow.Author.Needs.{needs}
 use Rattle.solve_test.proofs.tables.put_all.Statement.{statement}
 use Rattle.solve_test.proofs.tables.put_all.Tie as tie
 
@@ -21,42 +20,14 @@ only-requires c κs = search needs
 loop-holds : tie.Need-loop-holds Inv-loop μ-loop
 loop-holds c = put-start _ _ _ _ (c .before .before .before .pre .0)
 
-is-empty-requires : tie.Need-is-empty-requires Inv-loop μ-loop
-is-empty-requires c κs = search needs
+pop-requires : tie.Need-pop-requires Inv-loop μ-loop
+pop-requires c κs = search needs
 
-lowest-requires : tie.Need-lowest-requires Inv-loop μ-loop
-lowest-requires c κs = search needs
+enum-known-h : tie.Need-enum-known-h Inv-loop μ-loop
+enum-known-h c = search needs
 
-put-requires : tie.Need-put-requires Inv-loop μ-loop
-put-requires c κs =
-    let k = c .before .before in
-    let e = k .before .before in
-    let l = e .before .loop in
-    (l .inv .long, lowest-in (l .left) _ (k .lowest .result) (e .is-empty .ensures) (k .before .if1 .taken) (k .lowest .ensures) .0)
-
-without-requires : tie.Need-without-requires Inv-loop μ-loop
-without-requires c κs =
-    let k = c .before .before .before .before .before .before .before in
-    let e = k .before .before in
-    lowest-in (e .before .loop .left) _ (k .lowest .result) (e .is-empty .ensures) (k .before .if1 .taken) (k .lowest .ensures) .0
-
-loop-less : tie.Need-loop-less Inv-loop μ-loop
-loop-less c =
-    let k = c .before .before .before .before .before .before .before .before in
-    let e = k .before .before in
-    let l = e .before .loop in
-    let x = lowest-in (l .left) _ (k .lowest .result) (e .is-empty .ensures) (k .before .if1 .taken) (k .lowest .ensures) in
-    omega (arith, one-less (l .left) (k .lowest .result) (c .without .result) (x .0) (x .1) (c .without .ensures))
-
-loop-again : tie.Need-loop-again Inv-loop μ-loop
-loop-again c =
-    let p = c .before .before .before .before .before in
-    let k = p .before .before .before in
-    let e = k .before .before in
-    let l = e .before .loop in
-    let o = e .before .before .only in
-    let x = lowest-in (l .left) _ (k .lowest .result) (e .is-empty .ensures) (k .before .if1 .taken) (k .lowest .ensures) in
-    put-more _ _ (o .result) (l .left) (c .without .result) _ (k .lowest .result) (l .low) (l .high) _ _ (o .ensures) (l .inv) (x .1) (p .put .ensures) (c .without .ensures)
+enum-told : tie.Need-enum-told Inv-loop μ-loop
+enum-told c = search needs
 
 same-length : tie.Need-same-length Inv-loop μ-loop
 same-length c = search needs
@@ -65,11 +36,18 @@ same-length-2 : tie.Need-same-length-2 Inv-loop μ-loop
 same-length-2 c = search needs
 
 returns : tie.Need-returns Inv-loop μ-loop
-returns c =
-    let e = c .before in
-    let l = e .before .loop in
-    let s = e .before .before .before .before .before in
-    put-end _ (s .args .set) (l .left) _ (l .low) (l .high) (small-set (s .args .set) (omega (arith, s .good))) (l .inv) (no-member (l .left) _ (e .is-empty .ensures) (c .if1 .left))
+returns c = put-end _ _ _ (c .before .before .before .loop .inv) (c .before .before .pop .ensures .empty (c .enum-told .given .1))
+
+put-requires : tie.Need-put-requires Inv-loop μ-loop
+put-requires c κs = (c .before .before .before .before .before .before .loop .inv .long, c .before .before .before .before .before .pop .ensures .lowest _ _ (c .before .before .before .h .given .1) .below)
+
+loop-less : tie.Need-loop-less Inv-loop μ-loop
+loop-less c =
+    let first = c .before .before .before .before .before .before .before .before .before .before .pop .ensures .lowest _ _ (c .before .before .before .before .before .before .before .before .h .given .1) in
+    omega arith
+
+loop-again : tie.Need-loop-again Inv-loop μ-loop
+loop-again c = put-more _ _ (c .before .before .before .before .before .before .before .before .before .before .before .before .only .result) _ (c .before .before .before .before .before .before .before .before .before .before .before .before .only .ensures) (c .before .before .before .before .before .before .before .before .before .before .before .loop .inv) (c .before .before .before .before .before .before .before .before .before .before .pop .ensures .lowest _ _ (c .before .before .before .before .before .before .before .before .h .given .1)) (c .before .before .before .before .put .ensures)
 
 pub put-all-spec : {M : Type 1} → statement M
 put-all-spec =
@@ -79,12 +57,12 @@ put-all-spec =
     μ-loop
     only-requires
     loop-holds
-    is-empty-requires
-    lowest-requires
-    put-requires
-    without-requires
-    loop-less
-    loop-again
+    pop-requires
+    enum-known-h
+    enum-told
     same-length
     same-length-2
-    returns)
+    returns
+    put-requires
+    loop-less
+    loop-again)
