@@ -1,5 +1,5 @@
 // A table of parents: the way from a node up to its fragment's root, the roots, the inner nodes and the leaves.
-use crate::NONE;
+use graph::NONE;
 use base_nodeset::NodeSet;
 ghost use mathlib.Core.Path.{_≡_};
 ghost use Prim.Native.Nat.{ℕ, _≤_, _<_};

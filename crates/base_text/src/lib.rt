@@ -3,6 +3,8 @@
 use base_nodeset::NodeSet;
 use format::Refusal;
 use graph::Count;
+use graph::LAST;
+use graph::NONE;
 ghost use mathlib.Core.Path.{_≡_};
 ghost use Prim.Native.Nat.{_+_, _≤_, _<_};
 ghost use mathlib.Core.List.{_++_};
@@ -10,9 +12,6 @@ ghost use lib.ListN.{length};
 ghost use Rattle.format.specs.Text.{decimal, line, countLine, refusedLine};
 ghost use Rattle.base_finite.specs.Stores.{Written};
 ghost use Rattle.base_text.specs.Lines.{hungAt, lineIn, hexDigit, hexLine};
-
-// What a placing has for a root on top.
-const TOP: u8 = 255;
 
 // No line of a reading is longer.
 pub const LINE: usize = 1100;
@@ -66,7 +65,7 @@ pub fn count_line(count: Count, out: &mut [u8], at: usize) -> usize
 {
     match count {
         Count::Exactly(k) => number_line(b"readings ", k, out, at),
-        Count::More => number_line(b"readings more than ", 65535, out, at),
+        Count::More => number_line(b"readings more than ", LAST, out, at),
     }
 }
 
@@ -75,7 +74,7 @@ fn hung(roots: NodeSet, leaf: u8, r: usize, out: &mut [u8], at: usize) -> usize
     requires { ⌜ (r < 128) × (at + length (hungAt roots leaf r) ≤ length (now out)) ⌝ }
     ensures { λ e. ⌜ Written (now (out .entry)) at (hungAt roots leaf r) (now (out .exit)) e ⌝ }
 {
-    if leaf == TOP {
+    if leaf == NONE {
         return at;
     }
     if !roots.has(r) {

@@ -1,15 +1,12 @@
 // Edges between two nodes, from the tables.
 use base_tables::rows::in_row;
 use base_tables::trees::tied;
+use graph::DOMINANCE;
+use graph::TREE;
 ghost use mathlib.Core.Path.{_≡_};
 ghost use Prim.Native.Nat.{_<_};
 ghost use lib.ListN.{length};
 ghost use Rattle.check_cycle.specs.Check.{dominanceJoins, joinedIn};
-
-// The kinds of edge in a cycle's bytes.
-pub const TREE: u8 = 2;
-
-pub const DOMINANCE: u8 = 3;
 
 // A dominance edge, taken either way.
 fn dominance_joins(low: &[u64], high: &[u64], u: usize, v: usize) -> bool

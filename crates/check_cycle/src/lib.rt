@@ -2,7 +2,7 @@
 mod edge;
 mod place;
 
-use crate::edge::DOMINANCE;
+use graph::DOMINANCE;
 use crate::edge::joined;
 use crate::place::kind_at;
 use crate::place::next_at;

@@ -1,7 +1,7 @@
 // What can be read off a placing's bytes and its rows: that it is a placing, a solved form, and that no leaf carries two
 // roots.
 use base_nodeset::NodeSet;
-use base_tables::NONE;
+use graph::NONE;
 use base_tables::rows::row;
 use solve_closure::cyclic;
 ghost use mathlib.Core.Path.{_≡_};

@@ -9,7 +9,7 @@ use crate::PlacingChecked;
 use format::Refusal;
 use show_drawing::draw;
 use solve_cycle::witness;
-use solve_numbered::LAST;
+use graph::LAST;
 use solve_numbered::count;
 use solve_numbered::find;
 use solve_rule1::configure;

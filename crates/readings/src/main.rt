@@ -9,7 +9,7 @@ use sheet_decode::judge::Verdict;
 use sheet_decode::read::read;
 use show_list::fill;
 use solve_branch::levels::WORDS;
-use solve_numbered::LAST;
+use graph::LAST;
 use solve_numbered::PAIRS;
 use solve_numbered::count;
 use solve_reduce::reduced::WIDE;

@@ -1,6 +1,6 @@
 // What is tested after the last command: 4, 5, 6.
 use base_nodeset::NodeSet;
-use base_tables::NONE;
+use graph::NONE;
 use base_tables::rows::set_at;
 use base_tables::trees::inner_nodes;
 use base_tables::trees::root_nodes;

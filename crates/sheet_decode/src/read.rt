@@ -3,7 +3,7 @@ use crate::judge::Verdict;
 use crate::judge::judge;
 use crate::run::Run;
 use crate::run::commands;
-use base_tables::NONE;
+use graph::NONE;
 use format::Refusal;
 ghost use mathlib.Core.Path.{_≡_};
 ghost use mathlib.Core.List.{[]};

@@ -1,7 +1,7 @@
 // One command taken: its edge goes into the tables, or its refusal comes out.
 use crate::command::Step;
 use crate::reader::command;
-use base_tables::NONE;
+use graph::NONE;
 use base_tables::rows::put_at;
 use base_tables::rows::set_at;
 use format::Refusal;

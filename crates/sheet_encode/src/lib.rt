@@ -1,7 +1,7 @@
 // Tidying: the sheet of the same graph with its commands in the tidy order.
 use base_nodeset::NodeSet;
 use base_nodeset::Popped;
-use base_tables::NONE;
+use graph::NONE;
 use base_tables::rows::set_at;
 use format::Refusal;
 use sheet_decode::judge::Verdict;

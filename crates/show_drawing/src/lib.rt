@@ -1,6 +1,6 @@
 // The drawing of a placing: each fragment writes its leaves in turn, and each leaf the fragments hung under it.
 use base_nodeset::NodeSet;
-use base_tables::NONE;
+use graph::NONE;
 use base_tables::trees::inner_nodes;
 use base_tables::trees::own;
 ghost use mathlib.Core.Path.{_≡_};

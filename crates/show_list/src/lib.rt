@@ -3,7 +3,7 @@
 use base_nodeset::NodeSet;
 use base_text::LINE;
 use base_text::reading_line;
-use solve_numbered::LAST;
+use graph::LAST;
 use solve_reduce::settle::settle;
 use solve_walk::steps::Moved;
 use solve_walk::steps::next;

@@ -3,7 +3,7 @@
 // over the rows that it extends.
 use base_nodeset::NodeSet;
 use base_nodeset::Popped;
-use base_tables::NONE;
+use graph::NONE;
 use base_tables::rows::in_row;
 use base_tables::rows::put_at;
 use base_tables::rows::set_at;

@@ -3,7 +3,7 @@
 mod minimal;
 mod search;
 
-use base_tables::NONE;
+use graph::NONE;
 use base_tables::rows::copy_rows;
 use base_tables::rows::row;
 use base_tables::trees::tied;
@@ -11,6 +11,8 @@ use minimal::first_leaf;
 use minimal::minimize;
 use minimal::take_out;
 use search::search;
+use graph::DOMINANCE;
+use graph::TREE;
 ghost use mathlib.Core.Path.{_≡_};
 ghost use mathlib.Core.Bool.{true};
 ghost use Prim.Native.Nat.{_+_, _*_, _≤_, _<_};
@@ -18,11 +20,6 @@ ghost use lib.ListN.{length, take, drop};
 ghost use Rattle.graph.specs.Cycle.{hypernormalCycle};
 ghost use Rattle.solve_cycle.specs.Thinning.{Unsolved};
 ghost use Rattle.solve_cycle.specs.Spelling.{kindIn, Back, Trail, Linked, Ring};
-
-// The kinds of edges, as document 01 numbers them.
-const TREE: u8 = 2;
-
-const DOMINANCE: u8 = 3;
 
 fn kind(parent: &[u8], u: usize, v: usize) -> u8
     requires { ⌜ (length (now parent) ≡ 128) × (u < 128) × (v < 128) ⌝ }

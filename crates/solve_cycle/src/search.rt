@@ -1,5 +1,5 @@
 // A search from a node over edges taken either way, breadth first.
-use base_tables::NONE;
+use graph::NONE;
 use base_tables::rows::in_row;
 use base_tables::trees::tied;
 ghost use mathlib.Core.Path.{_≡_};

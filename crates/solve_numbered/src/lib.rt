@@ -1,6 +1,7 @@
 // The readings of a graph that has some, by their numbers: how many there are, and the one with a number.
 use base_nodeset::NodeSet;
 use graph::Count;
+use graph::LAST;
 use solve_branch::levels::WORDS;
 use solve_reduce::reduced::WIDE;
 use solve_reduce::settle::settle;
@@ -17,9 +18,6 @@ ghost use Rattle.solve_branch.specs.Decisions.{Room};
 ghost use Rattle.solve_branch.specs.Fits.{Walkable};
 ghost use Rattle.solve_branch.specs.Levels.{Levels};
 ghost use Rattle.solve_numbered.specs.Numbered.{Reaches, SavedAt, Finds};
-
-// The last number that a reading is asked for by.
-pub const LAST: usize = 65535;
 
 // A choice adds a pair to the descent relation, so no walk makes more of them than there are pairs.
 pub const PAIRS: usize = 16384;

@@ -1,5 +1,5 @@
 // Where no choice is left: each root under the leaf of its one edge that stays.
-use base_tables::NONE;
+use graph::NONE;
 use base_tables::rows::set_at;
 ghost use mathlib.Core.Path.{_≡_};
 ghost use Prim.Native.Nat.{_≤_};

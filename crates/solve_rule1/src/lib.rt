@@ -1,6 +1,6 @@
 // Rule 1: from a solved form to a configuration.
 use base_nodeset::NodeSet;
-use base_tables::NONE;
+use graph::NONE;
 use base_tables::trees::inner_nodes;
 use base_tables::trees::own;
 ghost use mathlib.Core.Path.{_≡_};
