@@ -10,7 +10,7 @@ use lib.ListN.{length, take, drop, length-append, length-take}
 use lib.Seq.{sets-eq, take-at, take-all, take-length}
 use borrow.Author.Tests.{leb-true, leb-false}
 use Rattle.base_finite.specs.Below.{spread}
-use Rattle.base_finite.specs.Stores.{Written}
+use Rattle.base_finite.specs.Stores.{Written, joined}
 use Rattle.base_finite.proofs.Laws.{by-bool, spread-ext}
 use Rattle.base_nodeset.specs.declared.NodeSet.{NodeSet}
 use Rattle.graph.specs.Graph.{Graph, root, none}
@@ -30,7 +30,6 @@ use Rattle.solve_branch.specs.Fits.{Fits}
 use Rattle.solve_branch.specs.States.{Stands}
 use Rattle.solve_branch.proofs.Fitting.{fits-at}
 use Rattle.solve_branch.proofs.Walks.{stands-given}
-use Rattle.solve_numbered.specs.Numbered.{joined}
 use Rattle.show_list.specs.Pages.{linesTo}
 
 -- one line more

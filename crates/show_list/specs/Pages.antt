@@ -9,7 +9,7 @@ use Rattle.graph.specs.Order.{limit}
 use Rattle.format.specs.Text.{numbered}
 use Rattle.theory_list.specs.Readings.{listed}
 use Rattle.solve_branch.specs.States.{Stands}
-use Rattle.solve_numbered.specs.Numbered.{joined}
+use Rattle.base_finite.specs.Stores.{joined}
 use Rattle.show_list.specs.declared.Page.{Page}
 
 -- the lines of the readings up to the number k

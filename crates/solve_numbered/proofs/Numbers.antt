@@ -18,9 +18,6 @@ use Rattle.solve_reduce.specs.Reduced.{LooplessForm}
 use Rattle.theory_walk.proofs.States.{at-below}
 use Rattle.solve_branch.specs.Fits.{Walkable}
 use Rattle.solve_branch.specs.States.{Stands}
-use Rattle.solve_walk.specs.Moves.{Moves}
-use Rattle.solve_walk.specs.declared.steps.Moved.{Moved}
-use Rattle.solve_walk.specs.declared.steps.Moved.the-variants.{To, End}
 use Rattle.solve_branch.proofs.Walks.{stands-entry}
 use Rattle.solve_numbered.specs.Numbered.{Reaches, Finds}
 use Rattle.solve_numbered.specs.declared.Reached.{Reached}
@@ -77,10 +74,3 @@ module _ {n : ℕ} {parents owners : List ℕ} {leaves roots : NodeSet} {base-lo
 -- a walk has room for as many decisions as there are pairs of nodes
 pub room : {n : ℕ} {parents owners : List ℕ} {leaves roots : NodeSet} {base-low base-high : List ℕ} → Walkable n parents owners leaves roots base-low base-high → n * n ≤ 16384
 room {n} s = omega (arith, mul-le-mul (s .parents-table .few) (s .parents-table .few))
-
--- where the walk goes on, and where it ends
-pub moved-on : (g : Graph) (uppers lowers low high : List ℕ) (k depth : ℕ) (r : Moved) → Moves g uppers lowers low high k r → r ≡ To depth → Stands g uppers lowers low high depth k
-moved-on g uppers lowers low high k depth r x e = rw e at x
-
-pub moved-out : (g : Graph) (uppers lowers low high : List ℕ) (k : ℕ) (r : Moved) → Moves g uppers lowers low high k r → r ≡ End → length (listed g) ≡ k
-moved-out g uppers lowers low high k r x e = rw e at x

@@ -1,7 +1,7 @@
 -- To the reading with a number, and its placing written where there is one.
 use Prim.Native.Nat.{ℕ, _-_, _≤_, _<_}
 use mathlib.Core.Path.{_≡_}
-use mathlib.Core.List.{List, [], _∷_, _++_}
+use mathlib.Core.List.{List, _++_}
 use mathlib.Core.Bool.{Bool, true, false}
 use lib.ListN.{length, drop}
 use Rattle.graph.specs.Graph.{Graph}
@@ -25,8 +25,3 @@ SavedAt g uppers lowers saved-low saved-high r = (depth : ℕ) → r ≡ At dept
 pub record Finds (g : Graph) (k : ℕ) (old : List ℕ) (r : Bool) (new : List ℕ) : Type 0 where
   pub found : r ≡ true → (k ≤ length (listed g)) × (new ≡ entry (listed g) (k - 1) ++ drop (g .nodes) old)
   pub fewer : r ≡ false → (length (listed g) < k) × (new ≡ old)
-
--- lists one after the other
-unfoldable pub joined : List (List ℕ) → List ℕ
-joined [] = []
-joined (l ∷ ls) = l ++ joined ls

@@ -19,7 +19,8 @@ use Rattle.solve_branch.specs.Decisions.{decisions}
 use Rattle.solve_branch.specs.Fits.{Fits}
 use Rattle.solve_branch.specs.States.{Stands}
 use Rattle.solve_branch.proofs.Walks.{stands-given}
-use Rattle.solve_numbered.specs.Numbered.{joined, Reaches}
+use Rattle.base_finite.specs.Stores.{joined}
+use Rattle.solve_numbered.specs.Numbered.{Reaches}
 use Rattle.solve_numbered.specs.declared.Reached.{Reached}
 use Rattle.solve_numbered.specs.declared.Reached.the-variants.{At, Only}
 use Rattle.solve_stretch.specs.Stretch.{placings, Filled, StretchOf}

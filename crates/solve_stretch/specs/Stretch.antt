@@ -7,7 +7,7 @@ use lib.ListN.{length, take, drop}
 use Rattle.graph.specs.Graph.{Graph}
 use Rattle.graph.specs.Order.{limit}
 use Rattle.theory_list.specs.Readings.{listed}
-use Rattle.solve_numbered.specs.Numbered.{joined}
+use Rattle.base_finite.specs.Stores.{joined}
 
 -- the placings that come after the first `passed`, up to the number `last`
 abbrev pub placings : List (List ℕ) → ℕ → ℕ → List ℕ

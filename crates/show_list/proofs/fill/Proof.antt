@@ -10,7 +10,7 @@ use Rattle.graph.specs.Order.{limit}
 use Rattle.solve_branch.specs.Fits.{Fits}
 use Rattle.solve_branch.specs.Levels.{Saved}
 use Rattle.solve_branch.specs.States.{Stands}
-use Rattle.solve_numbered.proofs.Numbers.{moved-on, moved-out}
+use Rattle.solve_walk.proofs.Moved.{moved-on, moved-out}
 use Rattle.show_list.specs.Pages.{linesTo}
 use Rattle.show_list.proofs.Lines.{line-written, stands-below}
 use borrow.Author.Needs.{needs}

@@ -10,7 +10,7 @@ use Rattle.graph.specs.Order.{limit}
 use Rattle.solve_branch.specs.Fits.{Fits}
 use Rattle.solve_branch.specs.Levels.{Saved}
 use Rattle.solve_branch.specs.States.{Stands}
-use Rattle.solve_numbered.proofs.Numbers.{moved-on, moved-out}
+use Rattle.solve_walk.proofs.Moved.{moved-on, moved-out}
 use Rattle.solve_stretch.proofs.Placings.{Handed, handed-none, handed-more, handed-all, stands-within}
 use borrow.Author.Needs.{needs}
 use Rattle.solve_stretch.proofs.fill.Statement.{statement}
