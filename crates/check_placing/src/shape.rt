@@ -2,7 +2,7 @@
 // roots.
 use base_nodeset::NodeSet;
 use base_tables::NONE;
-use base_tables::rows::row;
+use base_tables::rows::set_at;
 use solve_closure::cyclic;
 ghost use mathlib.Core.Path.{_≡_};
 ghost use mathlib.Core.Bool.{not, _&&_};
@@ -48,8 +48,8 @@ fn strays(heads_low: &[u64], heads_high: &[u64], low: &[u64], high: &[u64], l: u
     requires { ⌜ Long (now «heads_low») (now «heads_high») × Long (now low) (now high) × (l < 128) ⌝ }
     ensures { λ r. ⌜ r ≡ any 128 (outside (now («heads_low» .entry)) (now («heads_high» .entry)) (now (low .entry)) (now (high .entry)) l) ⌝ }
 {
-    let heads = row(heads_low, heads_high, l);
-    let below = row(low, high, l);
+    let heads = set_at(heads_low, heads_high, l);
+    let below = set_at(low, high, l);
     !heads.difference(below).is_empty()
 }
 
