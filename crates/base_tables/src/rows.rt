@@ -27,16 +27,6 @@ pub fn put_at(low: &mut [u64], high: &mut [u64], i: usize, set: NodeSet)
     high[i] = set.high;
 }
 
-pub fn row(low: &[u64], high: &[u64], u: usize) -> NodeSet
-    requires { ⌜ Long (now low) (now high) × (u < 128) ⌝ }
-    ensures { λ r. ⌜ IsRow (inRow (now (low .entry)) (now (high .entry))) u r ⌝ }
-{
-    NodeSet {
-        low: low[u],
-        high: high[u],
-    }
-}
-
 // v is in row u.
 pub fn in_row(low: &[u64], high: &[u64], u: usize, v: usize) -> bool
     requires { ⌜ Long (now low) (now high) × (u < 128) × (v < 128) ⌝ }

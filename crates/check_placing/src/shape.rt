@@ -1,8 +1,8 @@
 // What can be read off a placing's bytes and its rows: that it is a placing, a solved form, and that no leaf carries two
 // roots.
 use base_nodeset::NodeSet;
+use base_tables::rows::set_at;
 use graph::NONE;
-use base_tables::rows::row;
 use solve_closure::cyclic;
 ghost use mathlib.Core.Path.{_≡_};
 ghost use mathlib.Core.Bool.{not, _&&_};
@@ -48,8 +48,8 @@ fn strays(heads_low: &[u64], heads_high: &[u64], low: &[u64], high: &[u64], l: u
     requires { ⌜ Long (now «heads_low») (now «heads_high») × Long (now low) (now high) × (l < 128) ⌝ }
     ensures { λ r. ⌜ r ≡ any 128 (outside (now («heads_low» .entry)) (now («heads_high» .entry)) (now (low .entry)) (now (high .entry)) l) ⌝ }
 {
-    let heads = row(heads_low, heads_high, l);
-    let below = row(low, high, l);
+    let heads = set_at(heads_low, heads_high, l);
+    let below = set_at(low, high, l);
     !heads.difference(below).is_empty()
 }
 

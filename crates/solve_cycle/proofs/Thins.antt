@@ -7,11 +7,10 @@ use mathlib.Core.Bool.{Bool, true, false, not, _&&_, _||_, true≢false}
 use mathlib.Core.Logic.{⊎-elim, _↔_}
 use native.Mathlib.Omega.{arith}
 use lib.Dec.{eqb, ltb}
-use lib.ListN.{length, getD, set, length-set}
-use lib.Seq.{getD-set-same, getD-set-other, set-set, set-getD}
-use borrow.Author.Tests.{eq-eqb, eqb-true, eqb-false, lt-ltb, ltb-true, ltb-false, not-true}
+use lib.ListN.{length}
+use borrow.Author.Tests.{eq-eqb, eqb-true, lt-ltb, ltb-true, ltb-false, not-true}
 use Rattle.base_finite.proofs.Laws.{by-bool, and-both, or-cases, not-holding, test-ext}
-use Rattle.base_nodeset.specs.Set.{mem, Removed}
+use Rattle.base_nodeset.specs.Set.{mem, Empty, Removed}
 use Rattle.base_nodeset.specs.declared.NodeSet.{NodeSet}
 use Rattle.graph.specs.Graph.{Edge, Graph, among, distinct, root, leaf, WellFormed}
 use Rattle.graph.specs.Order.{without, removed}
@@ -23,7 +22,7 @@ use Rattle.theory_forest.specs.Table.{Among}
 use Rattle.theory_list.proofs.Redundancy.{without-lacks, without-keeps}
 use Rattle.theory_cycle.specs.Alone.{alone}
 use Rattle.theory_cycle.proofs.Minimal.{Minimal, still-needed}
-use Rattle.base_tables.specs.Rows.{inRow}
+use Rattle.base_tables.specs.Rows.{inRow, IsRow, RowPut}
 use Rattle.base_tables.specs.Tables.{Tables}
 use Rattle.solve_cycle.specs.Thinning.{Unsolved, TakenOut, Thinned, andEdge, before}
 
@@ -95,23 +94,16 @@ removed-tables g n parents low high edges l r low′ high′ t o =
     }
 
 -- row l without r, stored
-pub row-out : (low high : List ℕ) (l r : ℕ) (row rest : NodeSet) → length low ≡ 128 → length high ≡ 128 → l < 128 → ((v : ℕ) → mem row v ≡ inRow low high l v) → Removed row r rest
-    → TakenOut l r low high (set low l (rest .low)) (set high l (rest .high))
-row-out low high l r row rest ll hl small is out =
+pub row-out : (l r : ℕ) (row : NodeSet) {rest : NodeSet} {low high low′ high′ : List ℕ} → IsRow (inRow low high) l row → Removed row r rest → RowPut l rest low high low′ high′ → TakenOut l r low high low′ high′
+row-out l r row is out put =
     record {
-      low-long = simp length-set;
-      high-long = simp length-set;
+      low-long = put .low-long;
+      high-long = put .high-long;
       row-is = λ a b.
-          by-bool (eqb a l)
-          (λ (e : eqb a l ≡ true).
-          let q : a ≡ l = eqb-true a l e in
-          rw (e, q, getD-set-same low l (rest .low) 0 (omega arith), getD-set-same high l (rest .high) 0 (omega arith))
-          (out b ∙ rw (is b)))
-          (λ (e : eqb a l ≡ false).
-          let other : a ≡ l → ⊥ = eqb-false a l e in
-          rw (e, getD-set-other low l a (rest .low) 0 other, getD-set-other high l a (rest .high) 0 other));
-      low-back = set-set low l (rest .low) (getD low l 0) ∙ set-getD low l 0;
-      high-back = set-set high l (rest .high) (getD high l 0) ∙ set-getD high l 0;
+          put .row-is a b
+          ∙ by-bool (eqb a l)
+          (λ (e : eqb a l ≡ true). rw (e, eqb-true a l e) (out b ∙ rw (is b)))
+          (λ (e : eqb a l ≡ false). rw e);
     }
 
 -- one edge settled
@@ -145,14 +137,34 @@ module _ (g : Graph) (n : ℕ) (parents low high : List ℕ) (settled : ℕ → 
         answer (removed (alone g (t .kept)) l r) (length (without (t .kept) l r))
         (removed-tables (alone g (t .kept)) n parents low high (length (t .kept)) l r low′ high′ (t .tables) o)
 
-    stays : b ≡ true → Thinned g n parents low high (andEdge settled l r)
-    stays so =
+    -- row l put back makes the old rows
+    pub settle-stays : (row : NodeSet) {low″ high″ : List ℕ} → IsRow (inRow low high) l row → RowPut l row low′ high′ low″ high″ → b ≡ true → Thinned g n parents low″ high″ (andEdge settled l r)
+    settle-stays row {low″} {high″} is put so =
+        let h = t .tables .holds in
         record {
           kept = t .kept;
           inside = t .inside;
-          tables = t .tables;
+          tables = record {
+            well-formed = t .tables .well-formed;
+            nodes = t .tables .nodes;
+            holds = record {
+              tree-within = h .tree-within;
+              one-parent = h .one-parent;
+              dominance-within = h .dominance-within;
+              parents-long = h .parents-long;
+              low-long = put .low-long ∙ o .low-long ∙ h .low-long;
+              high-long = put .high-long ∙ o .high-long ∙ h .high-long;
+              parent-is = h .parent-is;
+              heads-are = λ x y.
+                  put .row-is x y
+                  ∙ by-bool (eqb x l)
+                  (λ (e : eqb x l ≡ true). rw (e, eqb-true x l e) (is y ∙ h .heads-are l y))
+                  (λ (e : eqb x l ≡ false). rw e (o .row-is x y ∙ rw e (h .heads-are x y)));
+              edges-are = h .edges-are;
+            };
+          };
           unsolvable = t .unsolvable;
-          needed = λ x y h m.
+          needed = λ x y d m.
               ⊎-elim
               (λ (s : settled x y ≡ true). t .needed x y s m)
               (λ (s : (eqb x l && eqb y r) ≡ true).
@@ -160,11 +172,8 @@ module _ (g : Graph) (n : ℕ) (parents low high : List ℕ) (settled : ℕ → 
               let i : x ≡ l = eqb-true x l (q .0) in
               let j : y ≡ r = eqb-true y r (q .1) in
               rw (i, j) (answered .0 so))
-              (or-cases (settled x y) (eqb x l && eqb y r) h);
+              (or-cases (settled x y) (eqb x l && eqb y r) d);
         }
-
-    pub settle-stays : b ≡ true → Thinned g n parents (set low′ l (getD low l 0)) (set high′ l (getD high l 0)) (andEdge settled l r)
-    settle-stays y = rw (o .low-back, o .high-back) (stays y)
 
     pub settle-goes : b ≡ false → Thinned g n parents low′ high′ (andEdge settled l r)
     unfolding removed
@@ -217,16 +226,14 @@ module _ (g : Graph) (n : ℕ) (parents low high : List ℕ) (l : ℕ) where
       settled false true false false h = refl
       settled false false e f h = h
 
-  pub row-end : (left : NodeSet) → n ≤ 128 → ((k : ℕ) → k < 128 → mem left k ≡ false) → Thinned g n parents low high (rowSettled l left) → Thinned g n parents low high (before (l + 1))
-  row-end left few none t =
+  pub row-end : (left : NodeSet) → Empty left → Thinned g n parents low high (rowSettled l left) → Thinned g n parents low high (before (l + 1))
+  row-end left none t =
       thinned-map g n parents low high (rowSettled l left) t (before (l + 1)) (λ a b m h.
-      let w = row-within g n parents low high (rowSettled l left) t a b m in
-      let out : mem left b ≡ false = none b (omega (arith, w .1)) in
       by-bool (ltb a l)
       (λ (s : ltb a l ≡ true). rw s)
       (λ (s : ltb a l ≡ false).
       let i : a ≡ l = omega (arith, ltb-false a l s, ltb-true a (l + 1) h) in
-      rw (s, eq-eqb a l i, out)))
+      rw (s, eq-eqb a l i, none b)))
 
 -- the first and the last
 

@@ -5,7 +5,7 @@ use mathlib.Core.Path.{_≡_}
 use mathlib.Core.List.{List}
 use mathlib.Core.Bool.{Bool, true, not, _&&_, _||_}
 use lib.Dec.{eqb, ltb}
-use lib.ListN.{length, getD, set}
+use lib.ListN.{length}
 use Rattle.graph.specs.Graph.{Edge, Graph, DominanceEdge}
 use Rattle.graph.specs.Order.{removed}
 use Rattle.graph.specs.Placing.{Solvable}
@@ -21,13 +21,11 @@ pub record Unsolved (n : ℕ) (parents low high : List ℕ) : Type 0 where
   pub tables : Tables graph n parents low high edges
   pub unsolvable : Solvable graph → ⊥
 
--- The edge from l to r is out of the rows; row l put back makes the old ones.
+-- the edge from l to r is out of the rows
 pub record TakenOut (l r : ℕ) (low high low′ high′ : List ℕ) : Type 0 where
   pub low-long : length low′ ≡ length low
   pub high-long : length high′ ≡ length high
   pub row-is : (a b : ℕ) → inRow low′ high′ a b ≡ (not (eqb a l && eqb b r) && inRow low high a b)
-  pub low-back : set low′ l (getD low l 0) ≡ low
-  pub high-back : set high′ l (getD high l 0) ≡ high
 
 -- The rows hold edges of g, the kept ones: with g's tree they have no solved form, and have one without any that is settled.
 pub record Thinned (g : Graph) (n : ℕ) (parents low high : List ℕ) (settled : ℕ → ℕ → Bool) : Type 0 where

@@ -5,7 +5,7 @@ mod search;
 
 use graph::NONE;
 use base_tables::rows::copy_rows;
-use base_tables::rows::row;
+use base_tables::rows::set_at;
 use base_tables::trees::tied;
 use minimal::first_leaf;
 use minimal::minimize;
@@ -92,7 +92,7 @@ pub fn witness(
     copy_rows(heads_low, heads_high, &mut low, &mut high);
     minimize(parent, n, &mut low, &mut high);
     let l = first_leaf(&low, &high, n);
-    let r = row(&low, &high, l).lowest();
+    let r = set_at(&low, &high, l).lowest();
     take_out(&mut low, &mut high, l, r);
     ring(parent, &low, &high, n, l, r, out)
 }

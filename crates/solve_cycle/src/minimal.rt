@@ -1,5 +1,7 @@
 // A minimal set of edges without a solved form: each edge is taken out, and put back if the rest has one.
-use base_tables::rows::row;
+use base_nodeset::Popped;
+use base_tables::rows::put_at;
+use base_tables::rows::set_at;
 use solve_closure::graph_rows;
 use solve_test::solvable;
 ghost use mathlib.Core.Path.{_≡_};
@@ -32,9 +34,8 @@ pub fn take_out(low: &mut [u64], high: &mut [u64], l: usize, r: usize)
     requires { ⌜ Long (now low) (now high) × (l < 128) × (r < 128) ⌝ }
     ensures { λ _. ⌜ TakenOut l r (now (low .entry)) (now (high .entry)) (now (low .exit)) (now (high .exit)) ⌝ }
 {
-    let rest = row(low, high, l).without(r);
-    low[l] = rest.low;
-    high[l] = rest.high;
+    let rest = set_at(low, high, l).without(r);
+    put_at(low, high, l, rest);
 }
 
 // The edge from l to r goes, unless the rest has a solved form.
@@ -45,12 +46,10 @@ fn settle(parent: &[u8], n: usize, low: &mut [u64], high: &mut [u64], l: usize, 
         Thinned g n (now (parent .entry)) (now (low .exit)) (now (high .exit)) (andEdge settled l r))
         ⌝ }
 {
-    let row_low = low[l];
-    let row_high = high[l];
+    let row = set_at(low, high, l);
     take_out(low, high, l, r);
     if has_form(parent, n, low, high) {
-        low[l] = row_low;
-        high[l] = row_high;
+        put_at(low, high, l, row);
     }
 }
 
@@ -62,11 +61,13 @@ fn settle_row(parent: &[u8], n: usize, low: &mut [u64], high: &mut [u64], l: usi
         Thinned g n (now (parent .entry)) (now (low .exit)) (now (high .exit)) (before (l + 1)))
         ⌝ }
 {
-    let mut left = row(low, high, l);
-    while !left.is_empty() {
-        let r = left.lowest();
+    let mut left = set_at(low, high, l);
+    loop {
+        let Popped::Member(r, rest) = left.pop() else {
+            return;
+        };
         settle(parent, n, low, high, l, r);
-        left = left.without(r);
+        left = rest;
     }
 }
 
@@ -89,7 +90,7 @@ pub fn first_leaf(low: &[u64], high: &[u64], n: usize) -> usize
     ensures { λ r. ⌜ r ≡ least n (λ l. any 128 (inRow (now (low .entry)) (now (high .entry)) l)) ⌝ }
 {
     for l in 0..n {
-        if !row(low, high, l).is_empty() {
+        if !set_at(low, high, l).is_empty() {
             return l;
         }
     }

@@ -10,9 +10,9 @@ use native.Mathlib.Omega.{arith}
 use lib.Dec.{eqb, ltb}
 use borrow.Author.Tests.{eqb-true, eqb-false, not-true, ne-eqb, ltb-true, ltb-false, le-ltb}
 use Rattle.base_finite.specs.Below.{least}
-use Rattle.base_finite.proofs.Laws.{by-bool, and-both, and-false, least-none, least-at, least-below, least-holds}
+use Rattle.base_finite.proofs.Laws.{by-bool, and-both, and-false, least-none, least-is, least-at, least-below, least-holds}
 use Rattle.base_finite.proofs.Bounds.{least-ext}
-use Rattle.base_nodeset.specs.Set.{mem, Removed}
+use Rattle.base_nodeset.specs.Set.{mem, Empty, Lowest}
 use Rattle.base_nodeset.specs.declared.NodeSet.{NodeSet}
 use Rattle.graph.specs.Graph.{Graph}
 use Rattle.graph.specs.Order.{Kept, Choice}
@@ -25,18 +25,13 @@ use Rattle.solve_reduce.specs.Reduced.{second, several, LooplessForm}
 abbrev others : (ℕ → Bool) → ℕ → Bool
 others p k = not (eqb k (least 128 p)) && p k
 
-module _ (p : ℕ → Bool) (first : ℕ) (is : first ≡ least 128 p) where
-  none-there : 128 ≤ first → 128 ≡ second p
-  none-there h =
-      sym (least-none 128 (others p) (λ k small.
-      let out : p k ≡ false = least-below 128 p k (omega arith) in
-      rw out (and-false (not (eqb k (least 128 p))))))
+pub second-none : (s : NodeSet) → Empty s → 128 ≡ second (mem s)
+second-none s none = sym (least-none 128 (others (mem s)) (λ k small. rw (none k) (and-false (not (eqb k (least 128 (mem s)))))))
 
-pub second-none : (s : NodeSet) (first : ℕ) → first ≡ least 128 (mem s) → 128 ≤ first → 128 ≡ second (mem s)
-second-none s first is h = none-there (mem s) first is h
-
-pub second-some : (s : NodeSet) (first : ℕ) → first ≡ least 128 (mem s) → (rest : NodeSet) (r : ℕ) → Removed s first rest → r ≡ least 128 (mem rest) → r ≡ second (mem s)
-second-some s first is rest r gone e = e ∙ least-ext 128 (mem rest) (others (mem s)) (λ k h. gone k ∙ rw is)
+pub second-some : {s rest : NodeSet} {x : ℕ} (r : ℕ) → Lowest s x rest → r ≡ least 128 (mem rest) → r ≡ second (mem s)
+second-some {s} {rest} {x} r first e =
+    let is : least 128 (mem s) ≡ x = least-is 128 (mem s) x (first .below) (first .in-set) (first .none-lower) in
+    e ∙ least-ext 128 (mem rest) (others (mem s)) (λ k h. first .others k ∙ rw is)
 
 pub second-ext : (p q : ℕ → Bool) → ((k : ℕ) → p k ≡ q k) → second p ≡ second q
 second-ext p q same =

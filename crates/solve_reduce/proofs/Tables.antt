@@ -11,12 +11,11 @@ use lib.ListN.{getD}
 use borrow.Author.Tests.{eq-eqb, ne-eqb, eqb-true, eqb-false, lt-ltb, le-ltb, ltb-true, not-true}
 use Rattle.base_finite.proofs.Laws.{by-bool, not-holding, and-both, and-intro, and-true, or-false, or-left, or-right, or-cases}
 use Rattle.base_finite.proofs.Stores.{Filled}
-use Rattle.base_nodeset.specs.Set.{mem, Empty, Only, Inserted, Removed, Union, Intersection, Difference}
+use Rattle.base_nodeset.specs.Set.{mem, Empty, Only, Inserted, Removed, Union, Intersection, Difference, Lowest}
 use Rattle.base_nodeset.specs.declared.NodeSet.{NodeSet}
 use Rattle.base_nodeset.proofs.Members.{removed-member, removed-other, removed-gone}
 use Rattle.graph.specs.Graph.{Graph, Descent}
 use Rattle.graph.specs.Order.{Kept, adding}
-use Rattle.theory_edges.proofs.Ends.{leaf-below}
 use Rattle.theory_forest.specs.Shape.{Shaped}
 use Rattle.theory_forest.proofs.Closure.{descent-adding}
 use Rattle.theory_forest.proofs.Table.{or-holds, and-holds, eqb-holds, descent-within}
@@ -156,12 +155,12 @@ revise-start n set less more low high w =
     }
 
 pub revise-more : (n : ℕ) (set less more : NodeSet) (low high : List ℕ) (left : NodeSet) (low₁ high₁ low₂ high₂ : List ℕ) (x : ℕ) (from fewer others left′ : NodeSet)
-    → x < n → mem left x ≡ true → ((l : ℕ) → mem from l ≡ inRow low₁ high₁ (n + x) l) → Difference from less fewer → Union fewer more others
-    → RowPut (n + x) others low₁ high₁ low₂ high₂ → Removed left x left′
+    → x < n → Lowest left x left′ → ((l : ℕ) → mem from l ≡ inRow low₁ high₁ (n + x) l) → Difference from less fewer → Union fewer more others
+    → RowPut (n + x) others low₁ high₁ low₂ high₂
     → RevisedSo n set less more low high left low₁ high₁ → RevisedSo n set less more low high left′ low₂ high₂
-revise-more n set less more low high left low₁ high₁ low₂ high₂ x from fewer others left′ within in-left are is-fewer is-others p gone so =
+revise-more n set less more low high left low₁ high₁ low₂ high₂ x from fewer others left′ within first are is-fewer is-others p so =
     record {
-      of-set = λ v m. so .of-set v (removed-member left x left′ gone v m .0);
+      of-set = λ v m. so .of-set v (removed-member left x left′ (first .others) v m .0);
       wide = put-wide p (so .wide);
       same = λ u v h. p .row-is u v ∙ rw (apart n u x h) (so .same u v h);
       edges = λ v l h.
@@ -169,20 +168,20 @@ revise-more n set less more low high left low₁ high₁ low₂ high₂ x from f
           ∙ by-bool (eqb v x)
           (λ (e : eqb v x ≡ true).
           let i : v ≡ x = eqb-true v x e in
-          let before : inRow low₁ high₁ (n + x) l ≡ inRow low high (n + x) l = so .edges x l within ∙ rw (so .of-set x in-left, in-left) in
-          rw (i, eq-eqb (n + x) (n + x) refl, so .of-set x in-left, removed-gone left x left′ gone, is-others l, is-fewer l, are l, before))
+          let before : inRow low₁ high₁ (n + x) l ≡ inRow low high (n + x) l = so .edges x l within ∙ rw (so .of-set x (first .in-set), first .in-set) in
+          rw (i, eq-eqb (n + x) (n + x) refl, so .of-set x (first .in-set), removed-gone left x left′ (first .others), is-others l, is-fewer l, are l, before))
           (λ (e : eqb v x ≡ false).
           let other : v ≡ x → ⊥ = eqb-false v x e in
-          rw (other-place n v x other, removed-other left x left′ gone v other) (so .edges v l h));
+          rw (other-place n v x other, removed-other left x left′ (first .others) v other) (so .edges v l h));
     }
 
-pub revise-end : (n : ℕ) (set less more : NodeSet) (low high : List ℕ) (left : NodeSet) (low′ high′ : List ℕ) → n ≤ 128 → ((k : ℕ) → k < 128 → mem left k ≡ false)
+pub revise-end : (n : ℕ) (set less more : NodeSet) (low high : List ℕ) (left : NodeSet) (low′ high′ : List ℕ) → Empty left
     → RevisedSo n set less more low high left low′ high′ → Revised n set less more low high low′ high′
-revise-end n set less more low high left low′ high′ few none so =
+revise-end n set less more low high left low′ high′ none so =
     record {
       wide = so .wide;
       same = so .same;
-      edges = λ v l h. so .edges v l h ∙ rw (none v (omega arith), and-true (mem set v));
+      edges = λ v l h. so .edges v l h ∙ rw (none v, and-true (mem set v));
     }
 
 -- the leaves' edges entered
@@ -213,11 +212,11 @@ entered-else true b = or-false (b && true) ∙ and-true b
 entered-else false b = refl
 
 pub enter-more : (n : ℕ) (leaves roots : NodeSet) (base-low base-high : List ℕ) (left : NodeSet) (low high low′ high′ : List ℕ) (l : ℕ) (to nothing only left′ : NodeSet)
-    → mem left l ≡ true → Heads roots base-low base-high l to → Empty nothing → Only l only → Revised n to nothing only low high low′ high′ → Removed left l left′
+    → Lowest left l left′ → Heads roots base-low base-high l to → Empty nothing → Only l only → Revised n to nothing only low high low′ high′
     → EnteredSo n leaves roots base-low base-high left low high → EnteredSo n leaves roots base-low base-high left′ low′ high′
-enter-more n leaves roots base-low base-high left low high low′ high′ l to nothing only left′ in-left is none-there is-only r gone so =
+enter-more n leaves roots base-low base-high left low high low′ high′ l to nothing only left′ first is none-there is-only r so =
     record {
-      of-set = λ k m. so .of-set k (removed-member left l left′ gone k m .0);
+      of-set = λ k m. so .of-set k (removed-member left l left′ (first .others) k m .0);
       wide = r .wide;
       same = λ u v h. r .same u v h ∙ so .same u v h;
       edges = λ c v k h.
@@ -225,14 +224,14 @@ enter-more n leaves roots base-low base-high left low high low′ high′ l to n
           ∙ by-bool (eqb k l)
           (λ (e : eqb k l ≡ true).
           let i : k ≡ l = eqb-true k l e in
-          let before : inRow low high (n + v) l ≡ false = so .edges c v l h ∙ rw (so .of-set l in-left, in-left) in
-          rw (i, before, is-only l, eq-eqb l l refl, so .of-set l in-left, removed-gone left l left′ gone) (entered-here (mem to v) ∙ is .exact c v))
+          let before : inRow low high (n + v) l ≡ false = so .edges c v l h ∙ rw (so .of-set l (first .in-set), first .in-set) in
+          rw (i, before, is-only l, eq-eqb l l refl, so .of-set l (first .in-set), removed-gone left l left′ (first .others)) (entered-here (mem to v) ∙ is .exact c v))
           (λ (e : eqb k l ≡ false).
           let other : k ≡ l → ⊥ = eqb-false k l e in
-          rw (none-there k, is-only k, e, removed-other left l left′ gone k other) (entered-else (mem to v) (inRow low high (n + v) k) ∙ so .edges c v k h));
+          rw (none-there k, is-only k, e, removed-other left l left′ (first .others) k other) (entered-else (mem to v) (inRow low high (n + v) k) ∙ so .edges c v k h));
     }
 
-pub enter-end : (n : ℕ) (leaves roots : NodeSet) (base-low base-high : List ℕ) (left : NodeSet) (low high : List ℕ) → ((k : ℕ) → k < 128 → mem left k ≡ false)
+pub enter-end : (n : ℕ) (leaves roots : NodeSet) (base-low base-high : List ℕ) (left : NodeSet) (low high : List ℕ) → Empty left
     → EnteredSo n leaves roots base-low base-high left low high → (g : Graph) → Shaped g → Ends g n leaves roots → Rows (Descent g) base-low base-high → Unmarked g n low high
 enter-end n leaves roots base-low base-high left low high none so g s ends rows =
     record {
@@ -246,8 +245,7 @@ enter-end n leaves roots base-low base-high left low high none so g s ends rows 
                 stays .0 (and-intro (mem leaves l) (headOf roots base-low base-high l v) (and-both (mem leaves l) (not (mem left l)) (a .0) .0) (a .1)),
             λ k.
                 let a = and-both (mem leaves l) (headOf roots base-low base-high l v) (stays .1 k) in
-                let small : l < 128 = omega (arith, leaf-below g l (sym (ends .leaves-are l) ∙ a .0), s .few-nodes) in
-                is ∙ rw (a .0, a .1, none l small),
+                is ∙ rw (a .0, a .1, none l),
           );
     }
 

@@ -8,7 +8,7 @@ use lib.Dec.{eqb}
 use borrow.Author.Tests.{eq-eqb, eqb-true, not-true}
 use Rattle.base_finite.specs.Below.{any, count}
 use Rattle.base_finite.proofs.Laws.{by-bool, and-both, and-intro, and-false, any-at, any-none, any-ext, not-holding, test-ext}
-use Rattle.base_nodeset.specs.Set.{mem, Removed, Intersection, Difference}
+use Rattle.base_nodeset.specs.Set.{mem, Empty, Intersection, Difference, Lowest}
 use Rattle.base_nodeset.specs.declared.NodeSet.{NodeSet}
 use Rattle.base_nodeset.proofs.Members.{Small}
 use Rattle.base_finite.proofs.Counting.{count-grows}
@@ -37,21 +37,20 @@ module _
     (x : ℕ)
     (under top′ mid left′ : NodeSet)
     (so : TopsSo set low high top left)
-    (in-left : mem left x ≡ true)
+    (first : Lowest left x mid)
     (is-row : (v : ℕ) → mem under v ≡ inRow low high x v)
     (is-top : Difference top under top′)
-    (is-mid : Removed left x mid)
     (is-left : Difference mid under left′) where
   left-parts : (k : ℕ) → mem left′ k ≡ true → mem left k ≡ true
   left-parts k m =
       let a = and-both (mem mid k) (not (mem under k)) (sym (is-left k) ∙ m) in
-      and-both (not (eqb k x)) (mem left k) (sym (is-mid k) ∙ a .0) .1
+      and-both (not (eqb k x)) (mem left k) (sym (first .others k) ∙ a .0) .1
 
   left-gone : mem left′ x ≡ false
-  left-gone = is-left x ∙ rw (is-mid x, eq-eqb x x refl)
+  left-gone = is-left x ∙ rw (first .others x, eq-eqb x x refl)
 
-  pub tops-less : x < 128 → count 128 (mem left′) < count 128 (mem left)
-  tops-less h = count-grows 128 (mem left′) (mem left) x (λ k _. left-parts k) h left-gone in-left
+  pub tops-less : count 128 (mem left′) < count 128 (mem left)
+  tops-less = count-grows 128 (mem left′) (mem left) x (λ k _. left-parts k) (first .below) left-gone (first .in-set)
 
   -- what row x has is out
   row-out : (v : ℕ) → inRow low high x v ≡ true → mem top′ v ≡ false
@@ -65,7 +64,7 @@ module _
       by-bool (mem top v)
       (λ (e : mem top v ≡ true).
       by-bool (mem under v)
-      (λ (u : mem under v ≡ true). (x, so .left-of x in-left, sym (is-row v) ∙ u))
+      (λ (u : mem under v ≡ true). (x, so .left-of x (first .in-set), sym (is-row v) ∙ u))
       (λ (u : mem under v ≡ false). absurd (true≢false (sym (is-top v ∙ rw (e, u)) ∙ f))))
       (λ (e : mem top v ≡ false). so .out v h e)
 
@@ -80,7 +79,7 @@ module _
       (λ (q : eqb y x ≡ true).
       let i : y ≡ x = eqb-true y x q in
       row-out v (rw i at e))
-      (λ (q : eqb y x ≡ false). absurd (true≢false (sym (is-left y ∙ rw (is-mid y, q, l, u)) ∙ f)))))
+      (λ (q : eqb y x ≡ false). absurd (true≢false (sym (is-left y ∙ rw (first .others y, q, l, u)) ∙ f)))))
       (λ (l : mem left y ≡ false). stays-out v (so .passed closed y h l v e))
 
   pub tops-more : TopsSo set low high top′ left′
@@ -92,7 +91,7 @@ module _
         passed = passed-now;
       }
 
-pub tops-end : (set : NodeSet) (low high : List ℕ) (top left : NodeSet) → Small set → TopsSo set low high top left → ((k : ℕ) → k < 128 → mem left k ≡ false) → Tops set low high top
+pub tops-end : (set : NodeSet) (low high : List ℕ) (top left : NodeSet) → Small set → TopsSo set low high top left → Empty left → Tops set low high top
 unfolding topIn
 tops-end set low high top left small so none = record { of-set = so .top-of; exact = exact-now }
   where
@@ -105,7 +104,7 @@ tops-end set low high top left small so none = record { of-set = so .top-of; exa
         any-none 128 under (λ x h.
         not-holding (mem set x && inRow low high x v) (λ e.
         let b = and-both (mem set x) (inRow low high x v) e in
-        true≢false (sym t ∙ so .passed closed x (b .0) (none x h) v (b .1)))) in
+        true≢false (sym t ∙ so .passed closed x (b .0) (none x) v (b .1)))) in
         rw (so .top-of v t, free))
         (λ (t : (mem set v && not (any 128 under)) ≡ true).
         let b = and-both (mem set v) (not (any 128 under)) t in

@@ -1,5 +1,6 @@
 // Which sets have several members, and the roots that several leaves have edges to.
 use base_nodeset::NodeSet;
+use base_nodeset::Popped;
 ghost use mathlib.Core.Path.{_≡_};
 ghost use Prim.Native.Nat.{_<_};
 ghost use Rattle.base_nodeset.specs.Set.{mem};
@@ -9,11 +10,10 @@ ghost use Rattle.solve_reduce.specs.Reduced.{second as secondOf, Noted};
 pub fn second(set: NodeSet) -> usize
     ensures { λ r. ⌜ r ≡ secondOf (mem set) ⌝ }
 {
-    let first = set.lowest();
-    if 128 <= first {
+    let Popped::Member(_, rest) = set.pop() else {
         return 128;
-    }
-    set.without(first).lowest()
+    };
+    rest.lowest()
 }
 
 // v among the forks where its leaves are several, and else not.

@@ -1,6 +1,7 @@
 // Rule 2: the roots that a leaf's edges go to, those that are redundant left out.
 use base_nodeset::NodeSet;
-use base_tables::rows::row;
+use base_nodeset::Popped;
+use base_tables::rows::set_at;
 ghost use Prim.Native.Nat.{_<_};
 ghost use Rattle.base_tables.specs.Rows.{Long};
 ghost use Rattle.solve_reduce.specs.Staying.{Tops, Heads};
@@ -13,13 +14,14 @@ fn tops(low: &[u64], high: &[u64], set: NodeSet) -> NodeSet
 {
     let mut top = set;
     let mut left = set;
-    while !left.is_empty() {
-        let x = left.lowest();
-        let under = row(low, high, x);
+    loop {
+        let Popped::Member(x, rest) = left.pop() else {
+            return top;
+        };
+        let under = set_at(low, high, x);
         top = top.difference(under);
-        left = left.without(x).difference(under);
+        left = rest.difference(under);
     }
-    top
 }
 
 // The roots that the edges of the leaf l go to.
@@ -27,5 +29,5 @@ pub fn heads(low: &[u64], high: &[u64], roots: NodeSet, l: usize) -> NodeSet
     requires { ⌜ Long (now low) (now high) × (l < 128) ⌝ }
     ensures { λ r. ⌜ Heads roots (now (low .entry)) (now (high .entry)) l r ⌝ }
 {
-    tops(low, high, row(low, high, l).intersection(roots))
+    tops(low, high, set_at(low, high, l).intersection(roots))
 }

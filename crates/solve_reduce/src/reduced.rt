@@ -3,6 +3,7 @@
 use crate::forks::noted;
 use crate::heads::heads;
 use base_nodeset::NodeSet;
+use base_nodeset::Popped;
 use base_tables::rows::copy_first;
 use base_tables::rows::put_at;
 use base_tables::rows::set_at;
@@ -57,14 +58,15 @@ fn revise(
 {
     let mut forked = forks;
     let mut left = set;
-    while !left.is_empty() {
-        let v = left.lowest();
+    loop {
+        let Popped::Member(v, rest) = left.pop() else {
+            return forked;
+        };
         let from = set_at(low, high, n + v).difference(less).union(more);
         put_at(low, high, n + v, from);
         forked = noted(forked, v, from);
-        left = left.without(v);
+        left = rest;
     }
-    forked
 }
 
 // The reduced form of the graph with these rows.
@@ -88,11 +90,13 @@ pub fn reduce(
     clear(low, high, n);
     let mut forks = NodeSet::empty();
     let mut left = leaves;
-    while !left.is_empty() {
-        let l = left.lowest();
+    loop {
+        let Popped::Member(l, rest) = left.pop() else {
+            break;
+        };
         let to = heads(base_low, base_high, roots, l);
         forks = revise(low, high, n, to, NodeSet::empty(), NodeSet::only(l), forks);
-        left = left.without(l);
+        left = rest;
     }
     put_at(low, high, n + n, forks);
 }

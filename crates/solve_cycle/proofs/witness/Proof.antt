@@ -61,7 +61,7 @@ first-small c = omega (arith, first c .0, small (c .before .before .before .befo
 edge-of : (c : tie.After-lowest) → (c .lowest .result < 128) × (inRow (low (c .before .before .before .before .before .before .before .before .before)) (high (c .before .before .before .before .before .before .before .before .before)) (c .before .before .before .before .first-leaf .result) (c .lowest .result) ≡ true)
 edge-of c =
     let m = c .before .before .before .before .before .before .before .before .before in
-    let row = c .before .row in
+    let row = c .before .set-at in
     let some : any 128 (mem (row .result)) ≡ true =
     any-ext 128 (mem (row .result)) (inRow (low m) (high m) (c .before .before .before .before .first-leaf .result)) (λ k h. row .ensures k) ∙ first (c .before .before .before .before) .1 in
     let x = lowest-of (mem (row .result)) 128 (c .lowest .result) some (c .lowest .ensures) in
@@ -99,14 +99,17 @@ slice-aggregate-first-leaf-2 c = search needs
 first-leaf-requires : tie.Need-first-leaf-requires
 first-leaf-requires c κs = (long (c .before .before .before .before), small (c .before .before .before .before))
 
-slice-aggregate-row : tie.Need-slice-aggregate-row
-slice-aggregate-row c = search needs
+slice-aggregate-set-at : tie.Need-slice-aggregate-set-at
+slice-aggregate-set-at c = search needs
 
-slice-aggregate-row-2 : tie.Need-slice-aggregate-row-2
-slice-aggregate-row-2 c = search needs
+slice-aggregate-set-at-2 : tie.Need-slice-aggregate-set-at-2
+slice-aggregate-set-at-2 c = search needs
 
-row-requires : tie.Need-row-requires
-row-requires c κs = (long (c .before .before .before .before .before .before .before), first-small (c .before .before))
+set-at-requires : tie.Need-set-at-requires
+set-at-requires c κs =
+    let small = first-small (c .before .before) in
+    let both = long (c .before .before .before .before .before .before .before) in
+    search needs
 
 lowest-requires : tie.Need-lowest-requires
 lowest-requires c κs = search needs
@@ -166,9 +169,9 @@ witness-spec =
     slice-aggregate-first-leaf
     slice-aggregate-first-leaf-2
     first-leaf-requires
-    slice-aggregate-row
-    slice-aggregate-row-2
-    row-requires
+    slice-aggregate-set-at
+    slice-aggregate-set-at-2
+    set-at-requires
     lowest-requires
     slice-aggregate-take-out
     slice-aggregate-take-out-2

@@ -8,11 +8,11 @@ use borrow.Author.Needs.{needs}
 use Rattle.check_placing.proofs.shape.strays.Statement.{statement}
 use Rattle.check_placing.proofs.shape.strays.Tie as tie
 
-row-requires : tie.Need-row-requires
-row-requires c κs = search needs
+set-at-requires : tie.Need-set-at-requires
+set-at-requires c κs = search needs
 
-row-requires-2 : tie.Need-row-requires-2
-row-requires-2 c κs = search needs
+set-at-requires-2 : tie.Need-set-at-requires-2
+set-at-requires-2 c κs = search needs
 
 difference-requires : tie.Need-difference-requires
 difference-requires c κs = search needs
@@ -25,9 +25,9 @@ returns c =
     let d = c .before .difference in
     ap not (c .is-empty .ensures)
     ∙ not-not (any 128 (mem (d .result)))
-    ∙ any-ext 128 _ _ (λ v h. d .ensures v ∙ rw (c .before .before .before .row .ensures v, c .before .before .row2 .ensures v))
+    ∙ any-ext 128 _ _ (λ v h. d .ensures v ∙ rw (c .before .before .before .set-at .ensures v, c .before .before .set-at2 .ensures v))
 
 pub strays-spec : {M : Type 1} → statement M
 strays-spec =
     tie.close
-    (tie.spec row-requires row-requires-2 difference-requires is-empty-requires returns)
+    (tie.spec set-at-requires set-at-requires-2 difference-requires is-empty-requires returns)

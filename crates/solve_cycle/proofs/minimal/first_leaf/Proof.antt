@@ -24,10 +24,9 @@ abbrev μ-loop : tie.MeasureT-loop
 loop-holds : tie.Need-loop-holds Inv-loop μ-loop
 loop-holds c = (omega arith, λ k h. absurd (omega arith))
 
-row-requires : tie.Need-row-requires Inv-loop μ-loop
-row-requires c κs =
-    let s = c .before .before .before .before in
-    (s .pre .0, omega (arith, s .pre .1))
+set-at-requires : tie.Need-set-at-requires Inv-loop μ-loop
+set-at-requires c κs =
+    (omega (arith, c .before .before .before .before .pre .0 .0, c .before .before .before .before .pre .1), omega (arith, c .before .before .before .before .pre .0 .1, c .before .before .before .before .pre .1))
 
 is-empty-requires : tie.Need-is-empty-requires Inv-loop μ-loop
 is-empty-requires c κs = search needs
@@ -36,7 +35,7 @@ returns : tie.Need-returns Inv-loop μ-loop
 returns c =
     let a = c .before .before .before .before .before .before .before .args in
     let l = c .before .before .before .before .loop in
-    let row = c .before .before .row in
+    let row = c .before .before .set-at in
     sym (least-is (a .n) (λ k. any 128 (inRow (now (a .low)) (now (a .high)) k)) (l .l) (omega arith)
     (sym (any-ext 128 (mem (row .result)) (inRow (now (a .low)) (now (a .high)) (l .l)) (λ k h. row .ensures k)) ∙ some-member (row .result) _ (c .before .is-empty .ensures) (c .if1 .taken))
     (l .inv .1))
@@ -51,7 +50,7 @@ loop-again : tie.Need-loop-again Inv-loop μ-loop
 loop-again c =
     let a = c .before .before .before .before .before .before .before .args in
     let l = c .before .before .before .before .loop in
-    let row = c .before .before .row in (
+    let row = c .before .before .set-at in (
       omega arith,
       below-more _ _ (l .inv .1)
           (any-none 128 (inRow (now (a .low)) (now (a .high)) (l .l)) (λ k h. sym (row .ensures k) ∙ no-member (row .result) _ (c .before .is-empty .ensures) (c .if1 .left) k h)),
@@ -71,7 +70,7 @@ first-leaf-spec =
     Inv-loop
     μ-loop
     loop-holds
-    row-requires
+    set-at-requires
     is-empty-requires
     returns
     add-l

@@ -5,17 +5,8 @@ use borrow.Author.Needs.{needs}
 use Rattle.solve_cycle.proofs.minimal.settle.Statement.{statement}
 use Rattle.solve_cycle.proofs.minimal.settle.Tie as tie
 
-mul-row-low : tie.Need-mul-row-low
-mul-row-low c = search needs
-
-slice-read-row-low : tie.Need-slice-read-row-low
-slice-read-row-low c = search needs
-
-mul-row-high : tie.Need-mul-row-high
-mul-row-high c = search needs
-
-slice-read-row-high : tie.Need-slice-read-row-high
-slice-read-row-high c = search needs
+set-at-requires : tie.Need-set-at-requires
+set-at-requires c κs = search needs
 
 take-out-requires : tie.Need-take-out-requires
 take-out-requires c κs = search needs
@@ -23,17 +14,8 @@ take-out-requires c κs = search needs
 has-form-requires : tie.Need-has-form-requires
 has-form-requires c κs = search needs
 
-mul-low : tie.Need-mul-low
-mul-low c = search needs
-
-slice-write-low : tie.Need-slice-write-low
-slice-write-low c = search needs
-
-mul-high : tie.Need-mul-high
-mul-high c = search needs
-
-slice-write-high : tie.Need-slice-write-high
-slice-write-high c = search needs
+put-at-requires : tie.Need-put-at-requires
+put-at-requires c κs = search needs
 
 same-length : tie.Need-same-length
 same-length c = search needs
@@ -43,9 +25,7 @@ same-length-2 c = search needs
 
 returns : tie.Need-returns
 returns c = λ g settled t.
-    let a = c .before .before .before .before .before .before .before .before .before .before .before .before .before .before .before .before .args in
-    let k = c .before .before .before .before .before .before .before .before .take-out in
-    settle-stays g (a .n) (now (a .parent)) (now (a .low)) (now (a .high)) settled t (a .l) (a .r) (k .last .0) (k .last .1 .0) (k .ensures) (c .before .has-form .result) (c .before .has-form .ensures) (c .if1 .taken)
+    settle-stays g _ _ _ _ settled t (c .before .before .before .before .before .before .before .before .before .before .before .before .before .before .before .before .before .before .before .before .before .before .before .before .args .l) (c .before .before .before .before .before .before .before .before .before .before .before .before .before .before .before .before .before .before .before .before .before .before .before .before .args .r) _ _ (c .before .before .before .before .before .before .before .before .before .before .before .before .before .before .before .take-out .ensures) (c .before .before .before .before .before .before .before .before .has-form .result) (c .before .before .before .before .before .before .before .before .has-form .ensures) (c .before .before .before .before .before .before .before .before .before .before .before .before .before .before .before .before .before .before .set-at .result) (c .before .before .before .before .before .before .before .before .before .before .before .before .before .before .before .before .before .before .set-at .ensures) (c .before .before .before .before .put-at .ensures) (c .before .before .before .before .before .before .before .if1 .taken)
 
 same-length-3 : tie.Need-same-length-3
 same-length-3 c = search needs
@@ -55,24 +35,16 @@ same-length-4 c = search needs
 
 returns-2 : tie.Need-returns-2
 returns-2 c = λ g settled t.
-    let a = c .before .before .before .before .before .before .before .before .before .before .before .before .before .before .before .before .args in
-    let k = c .before .before .before .before .before .before .before .before .take-out in
-    settle-goes g (a .n) (now (a .parent)) (now (a .low)) (now (a .high)) settled t (a .l) (a .r) (k .last .0) (k .last .1 .0) (k .ensures) (c .before .has-form .result) (c .before .has-form .ensures) (c .if1 .left)
+    settle-goes g _ _ _ _ settled t (c .before .before .before .before .before .before .before .before .before .before .before .before .before .before .before .before .before .args .l) (c .before .before .before .before .before .before .before .before .before .before .before .before .before .before .before .before .before .args .r) _ _ (c .before .before .before .before .before .before .before .before .take-out .ensures) (c .before .has-form .result) (c .before .has-form .ensures) (c .if1 .left)
 
 pub settle-spec : {M : Type 1} → statement M
 settle-spec =
     tie.close
     (tie.spec
-    mul-row-low
-    slice-read-row-low
-    mul-row-high
-    slice-read-row-high
+    set-at-requires
     take-out-requires
     has-form-requires
-    mul-low
-    slice-write-low
-    mul-high
-    slice-write-high
+    put-at-requires
     same-length
     same-length-2
     returns

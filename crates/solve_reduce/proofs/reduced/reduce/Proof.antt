@@ -4,7 +4,6 @@ use native.Mathlib.Omega.{arith}
 use denote.Ref.{now}
 use Rattle.base_finite.specs.Below.{count}
 use Rattle.base_nodeset.specs.Set.{mem}
-use Rattle.base_nodeset.proofs.Members.{no-member, lowest-in, one-less}
 use Rattle.solve_reduce.specs.Reduced.{Forks}
 use Rattle.solve_reduce.proofs.Tables.{EnteredSo, enter-start, enter-more, enter-end, forks-none, marked}
 use borrow.Author.Needs.{needs}
@@ -40,59 +39,56 @@ loop-holds c =
     let a = c .before .before .before .before .before .before .before .before .before .before .before .before .before .before .before .before .before .before .before .before .args in
     (enter-start (a .n) (a .leaves) (a .roots) (now (a .base-low)) (now (a .base-high)) (now (a .low)) (now (a .high)) (c .before .before .before .before .before .before .before .before .before .before .before .before .before .before .copy-first .last .1 .0) (c .before .before .before .before .before .before .before .before .before .before .copy-first2 .last .1 .0) _ _ (c .before .before .before .before .before .before .before .before .before .before .before .before .before .before .copy-first .ensures) (c .before .before .before .before .before .before .before .before .before .before .copy-first2 .ensures) (c .before .before .before .before .before .clear .ensures), forks-none (a .n) _ _ _ _ (c .empty .result) (c .empty .ensures) (c .before .before .before .before .before .clear .ensures))
 
-is-empty-requires : tie.Need-is-empty-requires Inv-loop μ-loop
-is-empty-requires c κs = search needs
+pop-requires : tie.Need-pop-requires Inv-loop μ-loop
+pop-requires c κs = search needs
 
-lowest-requires : tie.Need-lowest-requires Inv-loop μ-loop
-lowest-requires c κs = search needs
+enum-known-l : tie.Need-enum-known-l Inv-loop μ-loop
+enum-known-l c = search needs
+
+enum-told : tie.Need-enum-told Inv-loop μ-loop
+enum-told c = search needs
 
 heads-requires : tie.Need-heads-requires Inv-loop μ-loop
-heads-requires c κs = (c .before .before .before .before .before .before .before .before .before .before .before .before .before .before .before .before .before .before .before .before .before .before .before .before .pre .0, lowest-in (c .before .before .before .loop .left) _ (c .lowest .result) (c .before .before .is-empty .ensures) (c .before .if1 .taken) (c .lowest .ensures) .0)
+heads-requires c κs = (c .before .before .before .before .before .before .before .before .before .before .before .before .before .before .before .before .before .before .before .before .before .before .before .before .before .pre .0, c .before .before .before .pop .ensures .lowest _ _ (c .before .l .given .1) .below)
 
 empty-requires-2 : tie.Need-empty-requires-2 Inv-loop μ-loop
 empty-requires-2 c κs = search needs
 
 only-requires : tie.Need-only-requires Inv-loop μ-loop
-only-requires c κs = lowest-in (c .before .before .before .before .before .before .before .loop .left) _ (c .before .before .before .before .lowest .result) (c .before .before .before .before .before .before .is-empty .ensures) (c .before .before .before .before .before .if1 .taken) (c .before .before .before .before .lowest .ensures) .0
+only-requires c κs = c .before .before .before .before .before .before .before .pop .ensures .lowest _ _ (c .before .before .before .before .before .l .given .1) .below
 
 revise-requires : tie.Need-revise-requires Inv-loop μ-loop
-revise-requires c κs = (c .before .before .before .before .before .before .before .before .loop .inv .0 .wide, c .before .before .before .before .before .before .before .before .before .before .before .before .before .before .before .before .before .before .before .before .before .before .before .before .before .before .before .before .before .pre .2, λ v m. c .before .before .before .before .before .before .before .before .before .before .before .before .before .before .before .before .before .before .before .before .before .before .before .before .before .before .before .before .before .pre .3 v (c .before .before .before .before .heads .ensures .of-roots v m))
-
-without-requires : tie.Need-without-requires Inv-loop μ-loop
-without-requires c κs = lowest-in (c .before .before .before .before .before .before .before .before .before .before .before .before .before .loop .left) _ (c .before .before .before .before .before .before .before .before .before .before .lowest .result) (c .before .before .before .before .before .before .before .before .before .before .before .before .is-empty .ensures) (c .before .before .before .before .before .before .before .before .before .before .before .if1 .taken) (c .before .before .before .before .before .before .before .before .before .before .lowest .ensures) .0
+revise-requires c κs = (c .before .before .before .before .before .before .before .before .before .loop .inv .0 .wide, c .before .before .before .before .before .before .before .before .before .before .before .before .before .before .before .before .before .before .before .before .before .before .before .before .before .before .before .before .before .before .pre .2, λ v m. c .before .before .before .before .before .before .before .before .before .before .before .before .before .before .before .before .before .before .before .before .before .before .before .before .before .before .before .before .before .before .pre .3 v (c .before .before .before .before .heads .ensures .of-roots v m))
 
 loop-less : tie.Need-loop-less Inv-loop μ-loop
-loop-less c =
-    let x = lowest-in (c .before .before .before .before .before .before .before .before .before .before .before .before .before .before .loop .left) _ (c .before .before .before .before .before .before .before .before .before .before .before .lowest .result) (c .before .before .before .before .before .before .before .before .before .before .before .before .before .is-empty .ensures) (c .before .before .before .before .before .before .before .before .before .before .before .before .if1 .taken) (c .before .before .before .before .before .before .before .before .before .before .before .lowest .ensures) in
-    omega (arith, one-less (c .before .before .before .before .before .before .before .before .before .before .before .before .before .before .loop .left) (c .before .before .before .before .before .before .before .before .before .before .before .lowest .result) (c .without .result) (x .0) (x .1) (c .without .ensures))
+loop-less c = omega (arith, c .before .before .before .before .before .before .before .before .before .before .before .before .before .pop .ensures .lowest _ _ (c .before .before .before .before .before .before .before .before .before .before .before .l .given .1) .one-less)
 
 loop-again : tie.Need-loop-again Inv-loop μ-loop
 loop-again c =
     let a = c .before .before .before .before .before .before .before .before .before .before .before .before .before .before .before .before .before .before .before .before .before .before .before .before .before .before .before .before .before .before .before .before .before .before .before .args in
     let l = c .before .before .before .before .before .before .before .before .before .before .before .before .before .before .loop in
-    let x = lowest-in (l .left) _ (c .before .before .before .before .before .before .before .before .before .before .before .lowest .result) (c .before .before .before .before .before .before .before .before .before .before .before .before .before .is-empty .ensures) (c .before .before .before .before .before .before .before .before .before .before .before .before .if1 .taken) (c .before .before .before .before .before .before .before .before .before .before .before .lowest .ensures) in
-    (enter-more (a .n) (a .leaves) (a .roots) (now (a .base-low)) (now (a .base-high)) (l .left) (l .low) (l .high) _ _ (c .before .before .before .before .before .before .before .before .before .before .before .lowest .result) (c .before .before .before .before .before .before .before .before .before .before .heads .result) (c .before .before .before .before .before .before .before .empty2 .result) (c .before .before .before .before .before .before .only .result) (c .without .result) (x .1) (c .before .before .before .before .before .before .before .before .before .before .heads .ensures) (c .before .before .before .before .before .before .before .empty2 .ensures) (c .before .before .before .before .before .before .only .ensures) (c .before .before .before .before .before .revise .ensures .0) (c .without .ensures) (l .inv .0), c .before .before .before .before .before .revise .ensures .1 (l .inv .1))
+    (enter-more (a .n) (a .leaves) (a .roots) (now (a .base-low)) (now (a .base-high)) _ (l .low) (l .high) _ _ _ (c .before .before .before .before .before .before .before .before .before .heads .result) (c .before .before .before .before .before .before .empty2 .result) (c .before .before .before .before .before .only .result) _ (c .before .before .before .before .before .before .before .before .before .before .before .before .before .pop .ensures .lowest _ _ (c .before .before .before .before .before .before .before .before .before .before .before .l .given .1)) (c .before .before .before .before .before .before .before .before .before .heads .ensures) (c .before .before .before .before .before .before .empty2 .ensures) (c .before .before .before .before .before .only .ensures) (c .before .before .before .before .revise .ensures .0) (l .inv .0), c .before .before .before .before .revise .ensures .1 (l .inv .1))
 
 add-put-at : tie.Need-add-put-at Inv-loop μ-loop
-add-put-at c = omega (arith, c .before .before .before .before .before .before .before .before .before .before .before .before .before .before .before .before .before .before .before .before .before .before .before .before .before .pre .2)
+add-put-at c = omega (arith, c .before .before .before .before .before .before .before .before .before .before .before .before .before .before .before .before .before .before .before .before .before .before .before .before .before .before .pre .2)
 
 put-at-requires : tie.Need-put-at-requires Inv-loop μ-loop
 put-at-requires c κs =
-    let w = c .before .before .before .before .loop .inv .0 .wide in
-    (omega (arith, w .0, c .before .before .before .before .before .before .before .before .before .before .before .before .before .before .before .before .before .before .before .before .before .before .before .before .before .pre .2), omega (arith, w .1, c .before .before .before .before .before .before .before .before .before .before .before .before .before .before .before .before .before .before .before .before .before .before .before .before .before .pre .2))
+    let w = c .before .before .before .before .before .loop .inv .0 .wide in
+    (omega (arith, w .0, c .before .before .before .before .before .before .before .before .before .before .before .before .before .before .before .before .before .before .before .before .before .before .before .before .before .before .pre .2), omega (arith, w .1, c .before .before .before .before .before .before .before .before .before .before .before .before .before .before .before .before .before .before .before .before .before .before .before .before .before .before .pre .2))
 
 same-length : tie.Need-same-length Inv-loop μ-loop
-same-length c = c .before .before .before .before .put-at .ensures .low-long ∙ c .before .before .before .before .before .before .before .before .before .loop .inv .0 .wide .0 ∙ sym (c .before .before .before .before .before .before .before .before .before .before .before .before .before .before .before .before .before .before .before .before .before .before .before .before .before .before .before .before .before .before .pre .1 .0)
+same-length c = c .before .before .before .before .put-at .ensures .low-long ∙ c .before .before .before .before .before .before .before .before .before .before .loop .inv .0 .wide .0 ∙ sym (c .before .before .before .before .before .before .before .before .before .before .before .before .before .before .before .before .before .before .before .before .before .before .before .before .before .before .before .before .before .before .before .pre .1 .0)
 
 same-length-2 : tie.Need-same-length-2 Inv-loop μ-loop
-same-length-2 c = c .before .before .before .before .put-at .ensures .high-long ∙ c .before .before .before .before .before .before .before .before .before .loop .inv .0 .wide .1 ∙ sym (c .before .before .before .before .before .before .before .before .before .before .before .before .before .before .before .before .before .before .before .before .before .before .before .before .before .before .before .before .before .before .pre .1 .1)
+same-length-2 c = c .before .before .before .before .put-at .ensures .high-long ∙ c .before .before .before .before .before .before .before .before .before .before .loop .inv .0 .wide .1 ∙ sym (c .before .before .before .before .before .before .before .before .before .before .before .before .before .before .before .before .before .before .before .before .before .before .before .before .before .before .before .before .before .before .before .pre .1 .1)
 
 returns : tie.Need-returns Inv-loop μ-loop
 returns c =
-    let a = c .before .before .before .before .before .before .before .before .before .before .before .before .before .before .before .before .before .before .before .before .before .before .before .before .before .before .before .before .before .before .args in
-    let l = c .before .before .before .before .before .before .before .before .before .loop in
+    let a = c .before .before .before .before .before .before .before .before .before .before .before .before .before .before .before .before .before .before .before .before .before .before .before .before .before .before .before .before .before .before .before .args in
+    let l = c .before .before .before .before .before .before .before .before .before .before .loop in
     λ g s ends rows.
-    marked g (enter-end (a .n) (a .leaves) (a .roots) (now (a .base-low)) (now (a .base-high)) (l .left) (l .low) (l .high) (no-member (l .left) _ (c .before .before .before .before .before .before .before .before .is-empty .ensures) (c .before .before .before .before .before .before .before .if1 .left)) (l .inv .0) g s ends rows) (l .inv .1) (c .before .before .before .before .put-at .ensures)
+    marked g (enter-end (a .n) (a .leaves) (a .roots) (now (a .base-low)) (now (a .base-high)) (l .left) (l .low) (l .high) (c .before .before .before .before .before .before .before .before .before .pop .ensures .empty (c .before .before .before .before .before .before .before .enum-told .given .1)) (l .inv .0) g s ends rows) (l .inv .1) (c .before .before .before .before .put-at .ensures)
 
 pub reduce-spec : {M : Type 1} → statement M
 reduce-spec =
@@ -105,13 +101,13 @@ reduce-spec =
     clear-requires
     empty-requires
     loop-holds
-    is-empty-requires
-    lowest-requires
+    pop-requires
+    enum-known-l
+    enum-told
     heads-requires
     empty-requires-2
     only-requires
     revise-requires
-    without-requires
     loop-less
     loop-again
     add-put-at

@@ -3,7 +3,6 @@ use native.Mathlib.Omega.{arith}
 use denote.Ref.{now}
 use Rattle.base_finite.specs.Below.{count}
 use Rattle.base_nodeset.specs.Set.{mem}
-use Rattle.base_nodeset.proofs.Members.{no-member, lowest-in, one-less}
 use Rattle.solve_reduce.specs.Reduced.{Forks}
 use Rattle.solve_reduce.proofs.Tables.{RevisedSo, revise-start, revise-more, revise-end, forks-put}
 use borrow.Author.Needs.{needs}
@@ -19,20 +18,31 @@ abbrev μ-loop : tie.MeasureT-loop
 loop-holds : tie.Need-loop-holds Inv-loop μ-loop
 loop-holds c = (revise-start _ _ _ _ _ _ (c .before .before .pre .0), λ are. are)
 
-is-empty-requires : tie.Need-is-empty-requires Inv-loop μ-loop
-is-empty-requires c κs = search needs
+pop-requires : tie.Need-pop-requires Inv-loop μ-loop
+pop-requires c κs = search needs
 
-lowest-requires : tie.Need-lowest-requires Inv-loop μ-loop
-lowest-requires c κs = search needs
+enum-known-v : tie.Need-enum-known-v Inv-loop μ-loop
+enum-known-v c = search needs
+
+enum-told : tie.Need-enum-told Inv-loop μ-loop
+enum-told c = search needs
+
+same-length : tie.Need-same-length Inv-loop μ-loop
+same-length c = search needs
+
+same-length-2 : tie.Need-same-length-2 Inv-loop μ-loop
+same-length-2 c = search needs
+
+returns : tie.Need-returns Inv-loop μ-loop
+returns c = (revise-end _ _ _ _ _ _ (c .before .before .before .loop .left) _ _ (c .before .before .pop .ensures .empty (c .enum-told .given .1)) (c .before .before .before .loop .inv .0), c .before .before .before .loop .inv .1)
 
 add-set-at : tie.Need-add-set-at Inv-loop μ-loop
-add-set-at c = omega (arith, lowest-in (c .before .before .before .before .before .loop .left) _ (c .before .before .lowest .result) (c .before .before .before .before .is-empty .ensures) (c .before .before .before .if1 .taken) (c .before .before .lowest .ensures) .0)
+add-set-at c = omega (arith, c .before .before .before .before .before .pop .ensures .lowest _ _ (c .before .before .before .v .given .1) .below)
 
 set-at-requires : tie.Need-set-at-requires Inv-loop μ-loop
 set-at-requires c κs =
-    let x = lowest-in (c .before .before .before .before .before .loop .left) _ (c .before .before .lowest .result) (c .before .before .before .before .is-empty .ensures) (c .before .before .before .if1 .taken) (c .before .before .lowest .ensures) in
-    let below = c .before .before .before .before .before .before .before .before .pre .2 (c .before .before .lowest .result) (c .before .before .before .before .before .loop .inv .0 .of-set (c .before .before .lowest .result) (x .1)) in
-    let w = c .before .before .before .before .before .loop .inv .0 .wide in
+    let below = c .before .before .before .before .before .before .before .before .before .pre .2 _ (c .before .before .before .before .before .before .loop .inv .0 .of-set _ (c .before .before .before .before .before .pop .ensures .lowest _ _ (c .before .before .before .v .given .1) .in-set)) in
+    let w = c .before .before .before .before .before .before .loop .inv .0 .wide in
     (omega (arith, below, w .0), omega (arith, below, w .1))
 
 difference-requires : tie.Need-difference-requires Inv-loop μ-loop
@@ -42,44 +52,30 @@ union-requires : tie.Need-union-requires Inv-loop μ-loop
 union-requires c κs = search needs
 
 add-put-at : tie.Need-add-put-at Inv-loop μ-loop
-add-put-at c = omega (arith, lowest-in (c .before .before .before .before .before .before .before .before .before .before .loop .left) _ (c .before .before .before .before .before .before .before .lowest .result) (c .before .before .before .before .before .before .before .before .before .is-empty .ensures) (c .before .before .before .before .before .before .before .before .if1 .taken) (c .before .before .before .before .before .before .before .lowest .ensures) .0)
+add-put-at c = omega (arith, c .before .before .before .before .before .before .before .before .before .before .pop .ensures .lowest _ _ (c .before .before .before .before .before .before .before .before .v .given .1) .below)
 
 put-at-requires : tie.Need-put-at-requires Inv-loop μ-loop
 put-at-requires c κs =
-    let x = lowest-in (c .before .before .before .before .before .before .before .before .before .before .loop .left) _ (c .before .before .before .before .before .before .before .lowest .result) (c .before .before .before .before .before .before .before .before .before .is-empty .ensures) (c .before .before .before .before .before .before .before .before .if1 .taken) (c .before .before .before .before .before .before .before .lowest .ensures) in
-    let below = c .before .before .before .before .before .before .before .before .before .before .before .before .before .pre .2 (c .before .before .before .before .before .before .before .lowest .result) (c .before .before .before .before .before .before .before .before .before .before .loop .inv .0 .of-set (c .before .before .before .before .before .before .before .lowest .result) (x .1)) in
-    let w = c .before .before .before .before .before .before .before .before .before .before .loop .inv .0 .wide in
+    let below = c .before .before .before .before .before .before .before .before .before .before .before .before .before .before .pre .2 _ (c .before .before .before .before .before .before .before .before .before .before .before .loop .inv .0 .of-set _ (c .before .before .before .before .before .before .before .before .before .before .pop .ensures .lowest _ _ (c .before .before .before .before .before .before .before .before .v .given .1) .in-set)) in
+    let w = c .before .before .before .before .before .before .before .before .before .before .before .loop .inv .0 .wide in
     (omega (arith, below, w .0), omega (arith, below, w .1))
 
 noted-requires : tie.Need-noted-requires Inv-loop μ-loop
-noted-requires c κs = lowest-in (c .before .before .before .before .before .before .before .before .before .before .before .before .before .before .before .loop .left) _ (c .before .before .before .before .before .before .before .before .before .before .before .before .lowest .result) (c .before .before .before .before .before .before .before .before .before .before .before .before .before .before .is-empty .ensures) (c .before .before .before .before .before .before .before .before .before .before .before .before .before .if1 .taken) (c .before .before .before .before .before .before .before .before .before .before .before .before .lowest .ensures) .0
-
-without-requires : tie.Need-without-requires Inv-loop μ-loop
-without-requires c κs = lowest-in (c .before .before .before .before .before .before .before .before .before .before .before .before .before .before .before .before .loop .left) _ (c .before .before .before .before .before .before .before .before .before .before .before .before .before .lowest .result) (c .before .before .before .before .before .before .before .before .before .before .before .before .before .before .before .is-empty .ensures) (c .before .before .before .before .before .before .before .before .before .before .before .before .before .before .if1 .taken) (c .before .before .before .before .before .before .before .before .before .before .before .before .before .lowest .ensures) .0
+noted-requires c κs = c .before .before .before .before .before .before .before .before .before .before .before .before .before .before .before .pop .ensures .lowest _ _ (c .before .before .before .before .before .before .before .before .before .before .before .before .before .v .given .1) .below
 
 loop-less : tie.Need-loop-less Inv-loop μ-loop
 loop-less c =
-    let x = lowest-in (c .before .before .before .before .before .before .before .before .before .before .before .before .before .before .before .before .before .loop .left) _ (c .before .before .before .before .before .before .before .before .before .before .before .before .before .before .lowest .result) (c .before .before .before .before .before .before .before .before .before .before .before .before .before .before .before .before .is-empty .ensures) (c .before .before .before .before .before .before .before .before .before .before .before .before .before .before .before .if1 .taken) (c .before .before .before .before .before .before .before .before .before .before .before .before .before .before .lowest .ensures) in
-    omega (arith, one-less (c .before .before .before .before .before .before .before .before .before .before .before .before .before .before .before .before .before .loop .left) (c .before .before .before .before .before .before .before .before .before .before .before .before .before .before .lowest .result) (c .without .result) (x .0) (x .1) (c .without .ensures))
+    let first = c .before .before .before .before .before .before .before .before .before .before .before .before .before .before .before .before .pop .ensures .lowest _ _ (c .before .before .before .before .before .before .before .before .before .before .before .before .before .before .v .given .1) in
+    omega arith
 
 loop-again : tie.Need-loop-again Inv-loop μ-loop
 loop-again c =
     let a = c .before .before .before .before .before .before .before .before .before .before .before .before .before .before .before .before .before .before .before .before .args in
     let l = c .before .before .before .before .before .before .before .before .before .before .before .before .before .before .before .before .before .loop in
-    let x = lowest-in (l .left) _ (c .before .before .before .before .before .before .before .before .before .before .before .before .before .before .lowest .result) (c .before .before .before .before .before .before .before .before .before .before .before .before .before .before .before .before .is-empty .ensures) (c .before .before .before .before .before .before .before .before .before .before .before .before .before .before .before .if1 .taken) (c .before .before .before .before .before .before .before .before .before .before .before .before .before .before .lowest .ensures) in
-    (revise-more (a .n) (a .set) (a .less) (a .more) (now (a .low)) (now (a .high)) (l .left) (l .low) (l .high) _ _ (c .before .before .before .before .before .before .before .before .before .before .before .before .before .before .lowest .result) (c .before .before .before .before .before .before .before .before .before .before .before .set-at .result) (c .before .before .before .before .before .before .before .before .before .before .difference .result) (c .before .before .before .before .before .before .before .before .before .union .result) (c .without .result) (c .before .before .before .before .before .before .before .before .before .before .before .before .before .before .before .before .before .before .before .before .pre .2 (c .before .before .before .before .before .before .before .before .before .before .before .before .before .before .lowest .result) (l .inv .0 .of-set (c .before .before .before .before .before .before .before .before .before .before .before .before .before .before .lowest .result) (x .1))) (x .1) (c .before .before .before .before .before .before .before .before .before .before .before .set-at .ensures) (c .before .before .before .before .before .before .before .before .before .before .difference .ensures) (c .before .before .before .before .before .before .before .before .before .union .ensures) (c .before .before .before .before .before .before .put-at .ensures) (c .without .ensures) (l .inv .0), λ are. forks-put (a .n) (c .before .before .before .before .before .before .before .before .before .before .before .before .before .before .lowest .result) (l .forked) (c .before .noted .result) (c .before .before .before .before .before .before .put-at .ensures) (c .before .noted .ensures) (l .inv .1 are))
-
-same-length : tie.Need-same-length Inv-loop μ-loop
-same-length c = search needs
-
-same-length-2 : tie.Need-same-length-2 Inv-loop μ-loop
-same-length-2 c = search needs
-
-returns : tie.Need-returns Inv-loop μ-loop
-returns c =
-    let a = c .before .before .before .before .before .args in
-    let l = c .before .before .loop in
-    (revise-end (a .n) (a .set) (a .less) (a .more) (now (a .low)) (now (a .high)) (l .left) (l .low) (l .high) (c .before .before .before .before .before .pre .1) (no-member (l .left) _ (c .before .is-empty .ensures) (c .if1 .left)) (l .inv .0), l .inv .1)
+    let first = c .before .before .before .before .before .before .before .before .before .before .before .before .before .before .before .before .pop .ensures .lowest _ _ (c .before .before .before .before .before .before .before .before .before .before .before .before .before .before .v .given .1) in (
+      revise-more (a .n) (a .set) (a .less) (a .more) _ _ _ (l .low) (l .high) _ _ _ (c .before .before .before .before .before .before .before .before .before .before .set-at .result) (c .before .before .before .before .before .before .before .before .before .difference .result) (c .before .before .before .before .before .before .before .before .union .result) _ (c .before .before .before .before .before .before .before .before .before .before .before .before .before .before .before .before .before .before .before .before .pre .2 _ (l .inv .0 .of-set _ (first .in-set))) first (c .before .before .before .before .before .before .before .before .before .before .set-at .ensures) (c .before .before .before .before .before .before .before .before .before .difference .ensures) (c .before .before .before .before .before .before .before .before .union .ensures) (c .before .before .before .before .before .put-at .ensures) (l .inv .0),
+      λ are. forks-put (a .n) _ (l .forked) (c .noted .result) (c .before .before .before .before .before .put-at .ensures) (c .noted .ensures) (l .inv .1 are),
+    )
 
 pub revise-spec : {M : Type 1} → statement M
 revise-spec =
@@ -88,8 +84,12 @@ revise-spec =
     Inv-loop
     μ-loop
     loop-holds
-    is-empty-requires
-    lowest-requires
+    pop-requires
+    enum-known-v
+    enum-told
+    same-length
+    same-length-2
+    returns
     add-set-at
     set-at-requires
     difference-requires
@@ -97,9 +97,5 @@ revise-spec =
     add-put-at
     put-at-requires
     noted-requires
-    without-requires
     loop-less
-    loop-again
-    same-length
-    same-length-2
-    returns)
+    loop-again)
