@@ -21,7 +21,7 @@ use Rattle.theory_forest.specs.Shape.{Shaped}
 use Rattle.theory_forest.proofs.Shape.{well-formed-shaped}
 use Rattle.theory_forest.proofs.Table.{graph-edge-within}
 use Rattle.theory_forest.proofs.Fragments.{leaf-not-root}
-use Rattle.theory_cycle.specs.Alone.{alone}
+use Rattle.theory_edges.specs.Edges.{over}
 use Rattle.theory_cycle.specs.Connected.{Connected}
 use Rattle.theory_cycle.proofs.Connected.{connected-carry}
 use Rattle.theory_cycle.proofs.Trails.{EitherWay}
@@ -226,33 +226,33 @@ lowest-of p m k e i =
 module _ (g : Graph) (n : ℕ) (parents low high : List ℕ) (t : Thinned g n parents low high (before n)) where
   some-leaf : any n (λ l. any 128 (inRow low high l)) ≡ true
   some-leaf =
-      let e = some-edge (alone g (t .kept)) (thinned-shaped g n parents low high (before n) t) (t .unsolvable) in
+      let e = some-edge (over g (t .kept)) (thinned-shaped g n parents low high (before n) t) (t .unsolvable) in
       let there : inRow low high (e .0) (e .1) ≡ true = t .tables .holds .heads-are (e .0) (e .1) ∙ e .2 in
       let w = row-within g n parents low high (before n) t (e .0) (e .1) there in
-      let few = few-nodes (alone g (t .kept)) n parents low high (length (t .kept)) (t .tables) in
+      let few = few-nodes (over g (t .kept)) n parents low high (length (t .kept)) (t .tables) in
       any-at n (λ l. any 128 (inRow low high l)) (e .0) (w .0) (any-at 128 (inRow low high (e .0)) (e .1) (omega (arith, w .1)) there)
 
   pub first-leaf-is : (l : ℕ) → l ≡ least n (λ x. any 128 (inRow low high x)) → (l < n) × (any 128 (inRow low high l) ≡ true)
   first-leaf-is l i = lowest-of (λ x. any 128 (inRow low high x)) n l some-leaf i
 
   module _ (l r : ℕ) (edge : inRow low high l r ≡ true) (low′ high′ : List ℕ) (o : TakenOut l r low high low′ high′) where
-    kept-edge : DominanceEdge (alone g (t .kept)) l r
+    kept-edge : DominanceEdge (over g (t .kept)) l r
     kept-edge = sym (t .tables .holds .heads-are l r) ∙ edge
 
-    rest-tables : Tables (removed (alone g (t .kept)) l r) n parents low′ high′ (length (without (t .kept) l r))
-    rest-tables = removed-tables (alone g (t .kept)) n parents low high (length (t .kept)) l r low′ high′ (t .tables) o
+    rest-tables : Tables (removed (over g (t .kept)) l r) n parents low′ high′ (length (without (t .kept) l r))
+    rest-tables = removed-tables (over g (t .kept)) n parents low high (length (t .kept)) l r low′ high′ (t .tables) o
 
     pub linked : Linked n parents low′ high′ l r
     unfolding removed
     linked =
         let w = row-within g n parents low high (before n) t l r edge in
         record {
-          graph = removed (alone g (t .kept)) l r;
+          graph = removed (over g (t .kept)) l r;
           edges = length (without (t .kept) l r);
           tables = rest-tables;
           leaf-small = w .0;
           root-small = w .1;
-          connected = joined-without (alone g (t .kept)) (thinned-shaped g n parents low high (before n) t) (thinned-minimal g n parents low high t) l r kept-edge;
+          connected = joined-without (over g (t .kept)) (thinned-shaped g n parents low high (before n) t) (thinned-minimal g n parents low high t) l r kept-edge;
         }
 
     module _ (shaped : Shaped g) (old new : List ℕ) (c : ℕ) (long : 2 * n ≤ length old) (ring : Ring n parents low′ high′ l r old new c) where
@@ -281,15 +281,15 @@ module _ (g : Graph) (n : ℕ) (parents low high : List ℕ) (t : Thinned g n pa
           (λ (m : 1 < c). m)
           (eq-or-lt-of-le (ring .some))
 
-      step : (i : ℕ) → i + 1 < c → Step g (Others (alone g (t .kept)) l r) (kind new i) (node new i) (node new (i + 1))
+      step : (i : ℕ) → i + 1 < c → Step g (Others (over g (t .kept)) l r) (kind new i) (node new i) (node new (i + 1))
       unfolding removed
       step i h =
           let p = ring .steps i h in
           rw (p .1)
-          (joined-step (removed (alone g (t .kept)) l r) n parents low′ high′ (length (without (t .kept) l r)) rest-tables
+          (joined-step (removed (over g (t .kept)) l r) n parents low′ high′ (length (without (t .kept) l r)) rest-tables
           (node new i) (node new (i + 1)) (ring .within i (omega arith)) (ring .within (i + 1) h) (p .0))
 
-      spelt : Spelt g (Others (alone g (t .kept)) l r) l r (take (2 * c) new)
+      spelt : Spelt g (Others (over g (t .kept)) l r) l r (take (2 * c) new)
       spelt =
           let m = size in
           record {
@@ -303,6 +303,6 @@ module _ (g : Graph) (n : ℕ) (parents low high : List ℕ) (t : Thinned g n pa
 
       pub ring-cycle : hypernormalCycle g (take (2 * c) new) ≡ true
       ring-cycle =
-          spelt-hypernormal g shaped (Others (alone g (t .kept)) l r) l r
-          (minimal-sparse (alone g (t .kept)) (thinned-shaped g n parents low high (before n) t) (thinned-minimal g n parents low high t) g (t .inside) l r kept-edge)
+          spelt-hypernormal g shaped (Others (over g (t .kept)) l r) l r
+          (minimal-sparse (over g (t .kept)) (thinned-shaped g n parents low high (before n) t) (thinned-minimal g n parents low high t) g (t .inside) l r kept-edge)
           (take (2 * c) new) spelt

@@ -20,7 +20,7 @@ use Rattle.theory_forest.specs.Shape.{Shaped}
 use Rattle.theory_forest.proofs.Shape.{without-among, well-formed-shaped}
 use Rattle.theory_forest.specs.Table.{Among}
 use Rattle.theory_list.proofs.Redundancy.{without-lacks, without-keeps}
-use Rattle.theory_cycle.specs.Alone.{alone}
+use Rattle.theory_edges.specs.Edges.{over}
 use Rattle.theory_cycle.proofs.Minimal.{Minimal, still-needed}
 use Rattle.base_tables.specs.Rows.{inRow, IsRow, RowPut}
 use Rattle.base_tables.specs.Tables.{Tables}
@@ -132,10 +132,10 @@ module _ (g : Graph) (n : ℕ) (parents low high : List ℕ) (settled : ℕ → 
       (omega (arith, w .0), omega (arith, w .1))
 
   module _ (l r : ℕ) (low′ high′ : List ℕ) (o : TakenOut l r low high low′ high′) (b : Bool) (answer : Answers n parents low′ high′ b) where
-    answered : (b ≡ true) ↔ Solvable (removed (alone g (t .kept)) l r)
+    answered : (b ≡ true) ↔ Solvable (removed (over g (t .kept)) l r)
     answered =
-        answer (removed (alone g (t .kept)) l r) (length (without (t .kept) l r))
-        (removed-tables (alone g (t .kept)) n parents low high (length (t .kept)) l r low′ high′ (t .tables) o)
+        answer (removed (over g (t .kept)) l r) (length (without (t .kept) l r))
+        (removed-tables (over g (t .kept)) n parents low high (length (t .kept)) l r low′ high′ (t .tables) o)
 
     -- row l put back makes the old rows
     pub settle-stays : (row : NodeSet) {low″ high″ : List ℕ} → IsRow (inRow low high) l row → RowPut l row low′ high′ low″ high″ → b ≡ true → Thinned g n parents low″ high″ (andEdge settled l r)
@@ -182,12 +182,12 @@ module _ (g : Graph) (n : ℕ) (parents low high : List ℕ) (settled : ℕ → 
         record {
           kept = es;
           inside = λ x y m. t .inside x y (without-among (t .kept) l r x y m);
-          tables = removed-tables (alone g (t .kept)) n parents low high (length (t .kept)) l r low′ high′ (t .tables) o;
+          tables = removed-tables (over g (t .kept)) n parents low high (length (t .kept)) l r low′ high′ (t .tables) o;
           unsolvable = λ s. true≢false (sym (answered .1 s) ∙ z);
           needed = λ x y h m.
               ⊎-elim
               (λ (s : settled x y ≡ true).
-              still-needed (alone g (t .kept)) es (without-among (t .kept) l r) x y (t .needed x y s (without-among (t .kept) l r x y m)))
+              still-needed (over g (t .kept)) es (without-among (t .kept) l r) x y (t .needed x y s (without-among (t .kept) l r x y m)))
               (λ (s : (eqb x l && eqb y r) ≡ true).
               let q = and-both (eqb x l) (eqb y r) s in
               absurd (without-lacks (t .kept) l r (subst₂ (Among es) (eqb-true x l (q .0)) (eqb-true y r (q .1)) m)))
@@ -247,7 +247,7 @@ thinned-start n parents low high s =
       needed = λ l r h m. absurd (omega (arith, ltb-true l 0 h));
     }
 
-pub thinned-minimal : (g : Graph) (n : ℕ) (parents low high : List ℕ) (t : Thinned g n parents low high (before n)) → Minimal (alone g (t .kept))
+pub thinned-minimal : (g : Graph) (n : ℕ) (parents low high : List ℕ) (t : Thinned g n parents low high (before n)) → Minimal (over g (t .kept))
 thinned-minimal g n parents low high t =
     record {
       unsolvable = t .unsolvable;
@@ -255,5 +255,5 @@ thinned-minimal g n parents low high t =
           t .needed l r (lt-ltb l n (row-within g n parents low high (before n) t l r (t .tables .holds .heads-are l r ∙ m) .0)) m;
     }
 
-pub thinned-shaped : (g : Graph) (n : ℕ) (parents low high : List ℕ) (settled : ℕ → ℕ → Bool) (t : Thinned g n parents low high settled) → Shaped (alone g (t .kept))
+pub thinned-shaped : (g : Graph) (n : ℕ) (parents low high : List ℕ) (settled : ℕ → ℕ → Bool) (t : Thinned g n parents low high settled) → Shaped (over g (t .kept))
 thinned-shaped g n parents low high settled t = well-formed-shaped (t .tables .well-formed)

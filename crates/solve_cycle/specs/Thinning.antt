@@ -12,7 +12,7 @@ use Rattle.graph.specs.Placing.{Solvable}
 use Rattle.base_tables.specs.Rows.{inRow}
 use Rattle.base_tables.specs.Tables.{Tables}
 use Rattle.theory_forest.specs.Table.{Among}
-use Rattle.theory_cycle.specs.Alone.{alone}
+use Rattle.theory_edges.specs.Edges.{over}
 
 -- the tables are those of a well-formed graph that has no solved form
 pub record Unsolved (n : ℕ) (parents low high : List ℕ) : Type 0 where
@@ -31,9 +31,9 @@ pub record TakenOut (l r : ℕ) (low high low′ high′ : List ℕ) : Type 0 wh
 pub record Thinned (g : Graph) (n : ℕ) (parents low high : List ℕ) (settled : ℕ → ℕ → Bool) : Type 0 where
   pub kept : List Edge
   pub inside : (l r : ℕ) → Among kept l r → DominanceEdge g l r
-  pub tables : Tables (alone g kept) n parents low high (length kept)
-  pub unsolvable : Solvable (alone g kept) → ⊥
-  pub needed : (l r : ℕ) → settled l r ≡ true → Among kept l r → Solvable (removed (alone g kept) l r)
+  pub tables : Tables (over g kept) n parents low high (length kept)
+  pub unsolvable : Solvable (over g kept) → ⊥
+  pub needed : (l r : ℕ) → settled l r ≡ true → Among kept l r → Solvable (removed (over g kept) l r)
 
 -- one more edge is settled
 abbrev pub andEdge : (ℕ → ℕ → Bool) → ℕ → ℕ → ℕ → ℕ → Bool

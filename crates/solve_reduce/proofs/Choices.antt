@@ -19,21 +19,21 @@ use Rattle.graph.specs.Order.{Kept, Choice}
 use Rattle.theory_list.proofs.Redundancy.{kept-within}
 use Rattle.theory_list.specs.Choosing.{Unforked}
 use Rattle.base_tables.specs.Rows.{inRow}
-use Rattle.solve_reduce.specs.Reduced.{second, several, LooplessForm}
+use Rattle.solve_reduce.specs.Reduced.{secondLowest, several, LooplessForm}
 
 -- the numbers but the lowest
 abbrev others : (ℕ → Bool) → ℕ → Bool
 others p k = not (eqb k (least 128 p)) && p k
 
-pub second-none : (s : NodeSet) → Empty s → 128 ≡ second (mem s)
+pub second-none : (s : NodeSet) → Empty s → 128 ≡ secondLowest (mem s)
 second-none s none = sym (least-none 128 (others (mem s)) (λ k small. rw (none k) (and-false (not (eqb k (least 128 (mem s)))))))
 
-pub second-some : {s rest : NodeSet} {x : ℕ} (r : ℕ) → Lowest s x rest → r ≡ least 128 (mem rest) → r ≡ second (mem s)
+pub second-some : {s rest : NodeSet} {x : ℕ} (r : ℕ) → Lowest s x rest → r ≡ least 128 (mem rest) → r ≡ secondLowest (mem s)
 second-some {s} {rest} {x} r first e =
     let is : least 128 (mem s) ≡ x = least-is 128 (mem s) x (first .below) (first .in-set) (first .none-lower) in
     e ∙ least-ext 128 (mem rest) (others (mem s)) (λ k h. first .others k ∙ rw is)
 
-pub second-ext : (p q : ℕ → Bool) → ((k : ℕ) → p k ≡ q k) → second p ≡ second q
+pub second-ext : (p q : ℕ → Bool) → ((k : ℕ) → p k ≡ q k) → secondLowest p ≡ secondLowest q
 second-ext p q same =
     least-ext 128 (others p) (others q) (λ k h. rw (same k, least-ext 128 p q (λ j _. same j)))
 
@@ -46,7 +46,7 @@ several-none p no-one =
     rw out (le-ltb 128 128 (omega arith))
 
 -- where there is one, it is above the lowest
-module _ (p : ℕ → Bool) (b : ℕ) (is : b ≡ second p) (some : b < 128) where
+module _ (p : ℕ → Bool) (b : ℕ) (is : b ≡ secondLowest p) (some : b < 128) where
   b-parts : (b ≡ least 128 p → ⊥) × (p b ≡ true)
   b-parts =
       let found : least 128 (others p) < 128 = omega arith in
@@ -56,7 +56,7 @@ module _ (p : ℕ → Bool) (b : ℕ) (is : b ≡ second p) (some : b < 128) whe
   lowest-less : least 128 p < b
   lowest-less = ⊎-elim (λ (i : least 128 p ≡ b). absurd (b-parts .0 (sym i))) (λ (i : least 128 p < b). i) (eq-or-lt-of-le (least-at 128 p b some (b-parts .1)))
 
-pub lowest-below : (s : NodeSet) (b : ℕ) → b ≡ second (mem s) → b < 128 → least 128 (mem s) < b
+pub lowest-below : (s : NodeSet) (b : ℕ) → b ≡ secondLowest (mem s) → b < 128 → least 128 (mem s) < b
 lowest-below s b is some = lowest-less (mem s) b is some
 
 module _ (g : Graph) (n : ℕ) (low high : List ℕ) (is : LooplessForm g n low high) where
@@ -76,12 +76,12 @@ module _ (g : Graph) (n : ℕ) (low high : List ℕ) (is : LooplessForm g n low 
         let w = kept-within g (is .shaped) l v k in
         (omega (arith, w .0, is .nodes), omega (arith, w .0, is .shaped .few-nodes))
 
-    another : (l : ℕ) → Kept g l v → (l ≡ least 128 (leaves v) → ⊥) → second (leaves v) ≤ l
+    another : (l : ℕ) → Kept g l v → (l ≡ least 128 (leaves v) → ⊥) → secondLowest (leaves v) ≤ l
     another l k other = least-at 128 (others (leaves v)) l (small l k .1) (rw (ne-eqb l (least 128 (leaves v)) other, in-leaves l k))
 
     only-lowest : several (leaves v) ≡ false → (l : ℕ) → Kept g l v → l ≡ least 128 (leaves v)
     only-lowest one l k =
-        let high-up : 128 ≤ second (leaves v) = ltb-false (second (leaves v)) 128 one in
+        let high-up : 128 ≤ secondLowest (leaves v) = ltb-false (secondLowest (leaves v)) 128 one in
         by-bool (eqb l (least 128 (leaves v)))
         (λ e. eqb-true l (least 128 (leaves v)) e)
         (λ e. absurd (omega (arith, another l k (eqb-false l (least 128 (leaves v)) e), small l k .1)))
@@ -101,8 +101,8 @@ module _ (g : Graph) (n : ℕ) (low high : List ℕ) (is : LooplessForm g n low 
     pub unforked : n ≤ v → Unforked g
     unforked all w l m k j = let h : w < n = kept-below w l k in below-v w l m h (omega arith) k j
 
-    module _ (within : v < n) (from : NodeSet) (from-are : (l : ℕ) → mem from l ≡ leaves v l) (b : ℕ) (b-is : b ≡ second (mem from)) where
-      b-second : b ≡ second (leaves v)
+    module _ (within : v < n) (from : NodeSet) (from-are : (l : ℕ) → mem from l ≡ leaves v l) (b : ℕ) (b-is : b ≡ secondLowest (mem from)) where
+      b-second : b ≡ secondLowest (leaves v)
       b-second = b-is ∙ second-ext (mem from) (leaves v) from-are
 
       few : n ≤ 128
@@ -112,7 +112,7 @@ module _ (g : Graph) (n : ℕ) (low high : List ℕ) (is : LooplessForm g n low 
       there =
           let found : least 128 (mem forks) < 128 = omega (arith, few) in
           let in-forks : mem forks v ≡ true = subst (λ (z : ℕ). mem forks z ≡ true) (sym lowest) (least-holds 128 (mem forks) found) in
-          let h : second (leaves v) < 128 = ltb-true (second (leaves v)) 128 (sym (is .reduced .forks v within) ∙ sym (are v) ∙ in-forks) in
+          let h : secondLowest (leaves v) < 128 = ltb-true (secondLowest (leaves v)) 128 (sym (is .reduced .forks v within) ∙ sym (are v) ∙ in-forks) in
           omega (arith, b-second)
 
       pub second-there : n ≤ b → ⊥

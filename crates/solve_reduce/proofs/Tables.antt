@@ -24,7 +24,7 @@ use Rattle.theory_list.specs.Keeping.{Fresh}
 use Rattle.theory_list.proofs.Keeping.{loopless-fewer, kept-adding}
 use Rattle.base_tables.specs.Rows.{inRow, RowPut, Rows}
 use Rattle.solve_closure.specs.Closing.{Extended}
-use Rattle.solve_reduce.specs.Reduced.{second, several, Forks, Ends, RootsAre, Wide, Reduced, Blank, Revised, Noted}
+use Rattle.solve_reduce.specs.Reduced.{secondLowest, several, Forks, Ends, RootsAre, Wide, Reduced, Blank, Revised, Noted}
 use Rattle.solve_reduce.specs.Staying.{Closed, headOf, Heads}
 use Rattle.solve_reduce.proofs.Staying.{closed, head-kept}
 use Rattle.solve_reduce.proofs.Choices.{several-ext, several-none}
@@ -357,17 +357,17 @@ module _ (n : ℕ) (roots : NodeSet) (a r : ℕ) (ha : a < n) (hr : r < n) {low 
 
 -- noting
 
-pub noted-in : (forks : NodeSet) (v : ℕ) (set r : NodeSet) (b : ℕ) → b ≡ second (mem set) → b < 128 → Inserted forks v r → Noted forks v set r
+pub noted-in : (forks : NodeSet) (v : ℕ) (set r : NodeSet) (b : ℕ) → b ≡ secondLowest (mem set) → b < 128 → Inserted forks v r → Noted forks v set r
 noted-in forks v set r b is some ins w =
-    let several-there : several (mem set) ≡ true = lt-ltb (second (mem set)) 128 (omega arith) in
+    let several-there : several (mem set) ≡ true = lt-ltb (secondLowest (mem set)) 128 (omega arith) in
     ins w
     ∙ by-bool (eqb w v)
     (λ (e : eqb w v ≡ true). rw e (sym several-there))
     (λ (e : eqb w v ≡ false). rw e)
 
-pub noted-out : (forks : NodeSet) (v : ℕ) (set r : NodeSet) (b : ℕ) → b ≡ second (mem set) → 128 ≤ b → Removed forks v r → Noted forks v set r
+pub noted-out : (forks : NodeSet) (v : ℕ) (set r : NodeSet) (b : ℕ) → b ≡ secondLowest (mem set) → 128 ≤ b → Removed forks v r → Noted forks v set r
 noted-out forks v set r b is none gone w =
-    let one-at-most : several (mem set) ≡ false = le-ltb (second (mem set)) 128 (omega arith) in
+    let one-at-most : several (mem set) ≡ false = le-ltb (secondLowest (mem set)) 128 (omega arith) in
     gone w
     ∙ by-bool (eqb w v)
     (λ (e : eqb w v ≡ true). rw e (sym one-at-most))

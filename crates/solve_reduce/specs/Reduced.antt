@@ -25,11 +25,11 @@ pub record RootsAre (g : Graph) (n : ℕ) (roots : NodeSet) : Type 0 where
   pub are : (v : ℕ) → mem roots v ≡ root g v
 
 -- the lowest but one of the numbers with p, and 128 where there are no two
-abbrev pub second : (ℕ → Bool) → ℕ
-second p = least 128 (λ (k : ℕ). not (eqb k (least 128 p)) && p k)
+abbrev pub secondLowest : (ℕ → Bool) → ℕ
+secondLowest p = least 128 (λ (k : ℕ). not (eqb k (least 128 p)) && p k)
 
 abbrev pub several : (ℕ → Bool) → Bool
-several p = ltb (second p) 128
+several p = ltb (secondLowest p) 128
 
 -- the set has the nodes that several of the leaves in the tables have edges to
 abbrev pub Forks : ℕ → List ℕ → List ℕ → NodeSet → Type 0

@@ -1,5 +1,5 @@
 // The choice of Rule 3: the lowest root with two edges that stay, and of their leaves the two lowest.
-use crate::forks::second;
+use crate::forks::second_lowest;
 use base_tables::rows::set_at;
 ghost use Prim.Native.Nat.{_≤_};
 ghost use Rattle.graph.specs.Graph.{Graph};
@@ -22,7 +22,7 @@ pub fn choose(low: &[u64], high: &[u64], n: usize) -> Fork
         return Fork::None;
     }
     let from = set_at(low, high, n + v);
-    let b = second(from);
+    let b = second_lowest(from);
     if n <= b {
         return Fork::None;
     }

@@ -4,11 +4,11 @@ use base_nodeset::Popped;
 ghost use mathlib.Core.Path.{_≡_};
 ghost use Prim.Native.Nat.{_<_};
 ghost use Rattle.base_nodeset.specs.Set.{mem};
-ghost use Rattle.solve_reduce.specs.Reduced.{second as secondOf, Noted};
+ghost use Rattle.solve_reduce.specs.Reduced.{secondLowest, Noted};
 
 // The lowest member but one, and 128 where there are no two.
-pub fn second(set: NodeSet) -> usize
-    ensures { λ r. ⌜ r ≡ secondOf (mem set) ⌝ }
+pub fn second_lowest(set: NodeSet) -> usize
+    ensures { λ r. ⌜ r ≡ secondLowest (mem set) ⌝ }
 {
     let Popped::Member(_, rest) = set.pop() else {
         return 128;
@@ -21,7 +21,7 @@ pub fn noted(forks: NodeSet, v: usize, leaves: NodeSet) -> NodeSet
     requires { ⌜ v < 128 ⌝ }
     ensures { λ r. ⌜ Noted forks v leaves r ⌝ }
 {
-    if second(leaves) < 128 {
+    if second_lowest(leaves) < 128 {
         return forks.with(v);
     }
     forks.without(v)

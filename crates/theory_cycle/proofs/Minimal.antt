@@ -24,7 +24,7 @@ use Rattle.theory_cycle.proofs.Spelt.{Sparse}
 use Rattle.theory_cycle.proofs.Closing.{TreeOr}
 use Rattle.theory_cycle.proofs.Thin.{elsewhere}
 use Rattle.theory_cycle.proofs.Lift.{own-connected, way-connected, ring-opened}
-use Rattle.theory_cycle.specs.Alone.{alone}
+use Rattle.theory_edges.specs.Edges.{over}
 use Rattle.theory_cycle.proofs.Alone.{alone-solvable}
 use Rattle.theory_cycle.proofs.RingExcludes.{ring-unsolvable}
 
@@ -63,7 +63,7 @@ removed-ringless g l r s o c = ring-unsolvable (removed g l r) (removed-shaped g
 
 -- An edge that is needed is still needed when other edges are taken away. So dropping edges one by one, each where the
 -- rest has no solved form, leaves a minimal set.
-pub still-needed : (g : Graph) (es : List Edge) → ((u v : ℕ) → Among es u v → DominanceEdge g u v) → (l r : ℕ) → Solvable (removed g l r) → Solvable (removed (alone g es) l r)
+pub still-needed : (g : Graph) (es : List Edge) → ((u v : ℕ) → Among es u v → DominanceEdge g u v) → (l r : ℕ) → Solvable (removed g l r) → Solvable (removed (over g es) l r)
 unfolding removed
 still-needed g es inside l r o =
     alone-solvable (removed g l r) (without es l r) (λ u v m.

@@ -1,5 +1,5 @@
 -- Theorem 6.2, from a ring to "no solved form": a ring of fragments is spelled as a simple hypernormal cycle, and that
--- excludes a solved form. As this holds of every graph, the edges of a ring alone have no solved form, whatever edges
+-- excludes a solved form. As this holds of every graph, the edges of a ring over have no solved form, whatever edges
 -- are left out beside them.
 use Prim.Native.Nat.{ℕ}
 use mathlib.Core.List.{List}
@@ -10,7 +10,7 @@ use Rattle.theory_forest.specs.Table.{Among}
 use Rattle.theory_ring.proofs.Fragments.{FragmentRing}
 use Rattle.theory_refutes.proofs.Excludes.{cycle-excludes}
 use Rattle.theory_cycle.proofs.Lift.{ring-cycle}
-use Rattle.theory_cycle.specs.Alone.{alone}
+use Rattle.theory_edges.specs.Edges.{over}
 use Rattle.theory_cycle.proofs.Alone.{alone-shaped}
 
 pub ring-excludes : (g : Graph) (p : List ℕ) → Shaped g → FragmentRing (own g) (DominanceEdge g) → SolvedForm g p → ⊥
@@ -19,8 +19,8 @@ ring-excludes g p s c o = let b = ring-cycle g s c in cycle-excludes g (b .0) p 
 pub ring-unsolvable : (g : Graph) → Shaped g → FragmentRing (own g) (DominanceEdge g) → Solvable g → ⊥
 ring-unsolvable g s c o = ring-excludes g (o .0) s c (o .1)
 
--- the edges of a ring alone
+-- the edges of a ring over
 pub ring-alone : (g : Graph) (es : List Edge) → Shaped g → ((l r : ℕ) → Among es l r → DominanceEdge g l r) → FragmentRing (own g) (Among es)
-    → Solvable (alone g es) → ⊥
+    → Solvable (over g es) → ⊥
 unfolding own
-ring-alone g es s f c o = ring-unsolvable (alone g es) (alone-shaped g es f s) c o
+ring-alone g es s f c o = ring-unsolvable (over g es) (alone-shaped g es f s) c o

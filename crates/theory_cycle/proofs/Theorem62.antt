@@ -17,7 +17,7 @@ use Rattle.theory_list.proofs.Readings.{solvable-decided}
 use Rattle.theory_cycle.proofs.Unsolvable.{unsolvable-ring}
 use Rattle.theory_cycle.proofs.Thin.{Thin, thin-more}
 use Rattle.theory_cycle.proofs.Lift.{Opened, ring-opened, opened-cycle, ring-cycle}
-use Rattle.theory_cycle.specs.Alone.{alone}
+use Rattle.theory_edges.specs.Edges.{over}
 use Rattle.theory_cycle.proofs.Alone.{alone-shaped, alone-solvable}
 
 -- "a hypernormal subgraph": the edges es of g, one at most at each leaf, with g's tree
@@ -25,13 +25,13 @@ abbrev pub HypernormalSubgraph : Graph → List Edge → Type 0
 HypernormalSubgraph g es = Thin (DominanceEdge g) es
 
 -- a ring's edges are a hypernormal subgraph with no solved form
-ring-part : (g : Graph) → Shaped g → FragmentRing (own g) (DominanceEdge g) → (es : List Edge) × HypernormalSubgraph g es × (Solvable (alone g es) → ⊥)
+ring-part : (g : Graph) → Shaped g → FragmentRing (own g) (DominanceEdge g) → (es : List Edge) × HypernormalSubgraph g es × (Solvable (over g es) → ⊥)
 ring-part g s c =
     let o : Opened g (DominanceEdge g) = ring-opened g (DominanceEdge g) c in
     let es : List Edge = (o .from, o .to) ∷ o .others in
     let t : HypernormalSubgraph g es = thin-more (DominanceEdge g) (o .from) (o .to) (o .others) (o .edge) (o .thin) in
-    let h : Shaped (alone g es) = alone-shaped g es (t .inside) s in
-    let own-edges : Opened (alone g es) (DominanceEdge (alone g es)) =
+    let h : Shaped (over g es) = alone-shaped g es (t .inside) s in
+    let own-edges : Opened (over g es) (DominanceEdge (over g es)) =
     record {
       from = o .from;
       to = o .to;
@@ -44,8 +44,8 @@ ring-part g s c =
           };
       connected = o .connected;
     } in
-    let b = opened-cycle (alone g es) h own-edges in
-    (es, t, λ x. cycle-excludes (alone g es) (b .0) (x .0) h (b .1) (x .1))
+    let b = opened-cycle (over g es) h own-edges in
+    (es, t, λ x. cycle-excludes (over g es) (b .0) (x .0) h (b .1) (x .1))
 
 pub unsolvable-cycle : (g : Graph) → Shaped g → (Solvable g → ⊥) → (bs : List ℕ) × (hypernormalCycle g bs ≡ true)
 unsolvable-cycle g s n = ring-cycle g s (unsolvable-ring g s n)
@@ -56,7 +56,7 @@ theorem-6-2a g s = (
   λ f. dite (solvable-decided g s) (λ o. o) (λ n. let b = unsolvable-cycle g s n in absurd (f (b .0) (b .1))),
 )
 
-pub theorem-6-2b : (g : Graph) → Shaped g → Solvable g ↔ ((es : List Edge) → HypernormalSubgraph g es → Solvable (alone g es))
+pub theorem-6-2b : (g : Graph) → Shaped g → Solvable g ↔ ((es : List Edge) → HypernormalSubgraph g es → Solvable (over g es))
 theorem-6-2b g s = (
   λ o es t. alone-solvable g es (t .inside) o,
   λ f. dite (solvable-decided g s) (λ o. o) (λ n. let b = ring-part g s (unsolvable-ring g s n) in absurd (b .2 (f (b .0) (b .1)))),

@@ -1,2 +1,1 @@
 pub mod Connected
-pub mod Alone

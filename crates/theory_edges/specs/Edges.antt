@@ -3,7 +3,7 @@ use Prim.Native.Nat.{ℕ, _<_, zero, suc, _+_}
 use mathlib.Core.Path.{_≡_}
 use mathlib.Core.List.{List}
 use mathlib.Core.Bool.{true}
-use Rattle.graph.specs.Graph.{Edge, among}
+use Rattle.graph.specs.Graph.{Edge, Graph, among}
 use Rattle.base_finite.specs.Below.{count}
 
 -- the edges are between numbers below n
@@ -18,3 +18,7 @@ sum (suc n) f = sum n f + f n
 -- how many pairs of numbers below n are among the edges
 unfoldable pub total : ℕ → List Edge → ℕ
 total n es = sum n (λ u. count n (among es u))
+
+-- the trees of a graph with these dominance edges alone
+abbrev pub over : Graph → List Edge → Graph
+over g es = record { nodes = g .nodes; tree = g .tree; dominance = es }

@@ -11,6 +11,7 @@ use mathlib.Core.Logic.{_⊎_, inl, inr, ⊎-elim, _↔_}
 use Rattle.graph.specs.Graph.{Edge, Graph, among, root, leaf, own, TreeEdge, DominanceEdge, GraphEdge, Descent, one}
 use Rattle.graph.specs.Order.{Kept, Choice, adding, Before, halves, within-first, within-second}
 use Rattle.graph.specs.Placing.{hangs, Below, SolvedForm}
+use Rattle.theory_edges.specs.Edges.{over}
 use Rattle.theory_edges.proofs.Tables.{table, among-table, table-among}
 use Rattle.theory_forest.specs.Shape.{Shaped}
 use Rattle.theory_forest.proofs.Shape.{same-trees}
@@ -37,10 +38,6 @@ pub data BeforeReduced : Graph → List ℕ → List ℕ → Type 0 where
   reduced-second : {g : Graph} {p q : List ℕ} (h : Graph) → Reduced g h → (v a b : ℕ) → Choice h v a b → Below h p b (own h a) → Below h q b (own h a) → BeforeReduced (adding h b (own h a)) p q → BeforeReduced g p q
 
 -- graphs with the same nodes and tree edges
-
--- g with other dominance edges
-abbrev over : Graph → List Edge → Graph
-over g d = record { nodes = g .nodes; tree = g .tree; dominance = d }
 
 over-same : (g h : Graph) → g .nodes ≡ h .nodes → g .tree ≡ h .tree → over g (h .dominance) ≡ h
 over-same g h n t = λ i. record { nodes = n i; tree = t i; dominance = h .dominance }

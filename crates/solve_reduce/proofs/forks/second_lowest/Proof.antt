@@ -1,8 +1,8 @@
 -- The lowest member but one is the lowest of the others.
 use Rattle.solve_reduce.proofs.Choices.{second-none, second-some}
 use borrow.Author.Needs.{needs}
-use Rattle.solve_reduce.proofs.forks.second.Statement.{statement}
-use Rattle.solve_reduce.proofs.forks.second.Tie as tie
+use Rattle.solve_reduce.proofs.forks.second_lowest.Statement.{statement}
+use Rattle.solve_reduce.proofs.forks.second_lowest.Tie as tie
 
 pop-requires : tie.Need-pop-requires
 pop-requires c κs = search needs
@@ -22,8 +22,8 @@ lowest-requires c κs = search needs
 returns-2 : tie.Need-returns-2
 returns-2 c = second-some _ (c .before .before .before .before .pop .ensures .lowest _ _ (c .before .before .rest .given .1)) (c .lowest .ensures)
 
-pub second-spec : {M : Type 1} → statement M
-second-spec =
+pub second-lowest-spec : {M : Type 1} → statement M
+second-lowest-spec =
     tie.close
     (tie.spec
     pop-requires
