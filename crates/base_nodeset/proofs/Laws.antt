@@ -11,10 +11,9 @@ use lib.Dec.{eqb, ltb}
 use borrow.Author.Tests.{lt-ltb, le-ltb, ltb-true, ltb-false, eqb-true, eqb-false, eq-eqb, ne-eqb}
 use Rattle.base_finite.specs.Below.{any, count, least}
 use Rattle.base_finite.proofs.Laws.{by-bool, any-ext, count-ext}
-use Rattle.base_nodeset.specs.declared.NodeSet.{NodeSet}
-use Rattle.base_nodeset.specs.Set.{bit, member, mem}
+use Rattle.base_nodeset.specs.Set.{bit, member}
 use Rattle.base_finite.proofs.Bounds.{any-join, count-join, least-join, least-ext}
-use Rattle.base_nodeset.proofs.Words.{bit-zero, bit-beyond, bit-and, bit-or, bit-difference, bit-power, bit-ext, any-bit, ones-count, trailing-least}
+use Rattle.base_nodeset.proofs.Words.{bit-zero, bit-beyond, bit-and, bit-or, bit-difference, bit-power, any-bit, ones-count, trailing-least}
 
 -- Which word.
 
@@ -107,25 +106,3 @@ least-member low high h =
       trailing-least 64 high,
     )
     (by-bool (eqb low 0) (λ t. rw t) (λ f. rw f)))
-
--- Two words of 64 bits each that have the same members are the same.
-pub member-ext : (low high low′ high′ : ℕ)
-    → low < 2 ^ 64 → high < 2 ^ 64 → low′ < 2 ^ 64 → high′ < 2 ^ 64
-    → ((k : ℕ) → k < 128 → member low high k ≡ member low′ high′ k)
-    → (low ≡ low′) × (high ≡ high′)
-member-ext low high low′ high′ h l h′ l′ f = (
-  bit-ext 64 low low′ h h′ (λ k q. sym (member-low low high k q) ∙ f k (omega arith) ∙ member-low low′ high′ k q),
-  bit-ext 64 high high′ l l′ (λ k q. sym (member-above low high k) ∙ f (64 + k) (omega arith) ∙ member-above low′ high′ k),
-)
-
--- the words of s have 64 bits each, as those of every value at run time have
-abbrev pub Sized : NodeSet → Type 0
-Sized s = (s .low < 2 ^ 64) × (s .high < 2 ^ 64)
-
-pub mem-ext : (s t : NodeSet) → Sized s → Sized t → ((k : ℕ) → k < 128 → mem s k ≡ mem t k) → s ≡ t
-mem-ext s t h l f =
-    let e = member-ext (s .low) (s .high) (t .low) (t .high) (h .0) (h .1) (l .0) (l .1) f in
-    ap₂ set-of (e .0) (e .1)
-  where
-    set-of : ℕ → ℕ → NodeSet
-    set-of low high = record { low = low; high = high }

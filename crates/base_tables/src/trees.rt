@@ -1,6 +1,6 @@
 // A table of parents: the way from a node up to its fragment's root, the roots, the inner nodes and the leaves.
-use graph::NONE;
 use base_nodeset::NodeSet;
+use graph::NONE;
 ghost use mathlib.Core.Path.{_≡_};
 ghost use Prim.Native.Nat.{ℕ, _≤_, _<_};
 ghost use lib.Dec.{ltb};

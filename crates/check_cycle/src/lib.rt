@@ -2,13 +2,13 @@
 mod edge;
 mod place;
 
-use graph::DOMINANCE;
 use crate::edge::joined;
 use crate::place::kind_at;
 use crate::place::next_at;
 use crate::place::node_at;
 use base_nodeset::NodeSet;
 use base_tables::rows::in_row;
+use graph::DOMINANCE;
 ghost use mathlib.Core.Path.{_≡_};
 ghost use Prim.Native.Nat.{ℕ, _≤_, _<_};
 ghost use lib.ListN.{length};

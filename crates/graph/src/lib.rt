@@ -5,6 +5,7 @@ pub const NONE: u8 = 255;
 
 // The kinds of the edges on a cycle.
 pub const TREE: u8 = 2;
+
 pub const DOMINANCE: u8 = 3;
 
 // The last number that a reading is asked for by.

@@ -40,8 +40,6 @@ unfolding risesIn
 rises-top zero parents v h = refl
 rises-top (suc k) parents v h = absurd (omega arith)
 
--- one node more in a set
-
 -- the edges of one row
 
 pub stray-inner : (row : NodeSet) (l : ℕ) (inner roots : NodeSet) → mem inner l ≡ true → strays (mem row) l inner roots ≡ any 128 (mem row)

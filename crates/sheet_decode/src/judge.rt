@@ -1,10 +1,10 @@
 // What is tested after the last command: 4, 5, 6.
 use base_nodeset::NodeSet;
-use graph::NONE;
 use base_tables::rows::set_at;
 use base_tables::trees::inner_nodes;
 use base_tables::trees::root_nodes;
 use format::Refusal;
+use graph::NONE;
 ghost use mathlib.Core.Path.{_≡_};
 ghost use mathlib.Core.List.{List};
 ghost use Prim.Native.Nat.{ℕ, _≤_, _<_};

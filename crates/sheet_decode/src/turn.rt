@@ -1,10 +1,10 @@
 // One command taken: its edge goes into the tables, or its refusal comes out.
 use crate::command::Step;
 use crate::reader::command;
-use graph::NONE;
 use base_tables::rows::put_at;
 use base_tables::rows::set_at;
 use format::Refusal;
+use graph::NONE;
 ghost use mathlib.Core.Path.{_≡_};
 ghost use mathlib.Core.List.{List};
 ghost use Prim.Native.Nat.{_≤_};

@@ -130,12 +130,6 @@ module _ (n : ℕ) (parents low high : List ℕ) (edges : ℕ) (h : TidyTables n
     start : Written old 0 (1 ∷ n ∷ []) (set (set old 0 1) 1 n) 2
     start = record { stored = refl; after = refl }
 
-    pub end-is : suc end ≡ length (tidy (h .graph))
-    end-is =
-        let e₁ = tree .after in
-        let e₂ = dominance .after in
-        omega (arith, held-parts)
-
     pub all-written : set new end 0 ≡ tidy (h .graph) ++ drop (length (tidy (h .graph))) old
     all-written =
         let last : Written new end (0 ∷ []) (set new end 0) (end + 1) = record { stored = refl; after = refl } in

@@ -1,13 +1,13 @@
 // Tidying: the sheet of the same graph with its commands in the tidy order.
 use base_nodeset::NodeSet;
 use base_nodeset::Popped;
-use graph::NONE;
 use base_tables::rows::set_at;
 use format::Refusal;
+use graph::NONE;
 use sheet_decode::judge::Verdict;
 use sheet_decode::read::read;
 ghost use mathlib.Core.Path.{_≡_};
-ghost use Prim.Native.Nat.{_+_, _*_, _≤_, _<_};
+ghost use Prim.Native.Nat.{_+_, _≤_, _<_};
 ghost use mathlib.Core.List.{[], _∷_};
 ghost use lib.ListN.{length};
 ghost use lib.Seq.{sets};

@@ -1,8 +1,8 @@
 // The drawing of a placing: each fragment writes its leaves in turn, and each leaf the fragments hung under it.
 use base_nodeset::NodeSet;
-use graph::NONE;
 use base_tables::trees::inner_nodes;
 use base_tables::trees::own;
+use graph::NONE;
 ghost use mathlib.Core.Path.{_≡_};
 ghost use Prim.Native.Nat.{_+_, _≤_, _<_};
 ghost use mathlib.Core.Bool.{_&&_};

@@ -7,7 +7,7 @@ use mathlib.Core.Bool.{true, false}
 use mathlib.Core.Logic.{⊎-elim, _↔_}
 use native.Mathlib.Omega.{arith}
 use lib.Dec.{ltb}
-use lib.ListN.{length, getD, take, length-take}
+use lib.ListN.{length, getD, take}
 use lib.Seq.{getD-take}
 use borrow.Author.Tests.{lt-ltb}
 use Rattle.base_finite.proofs.Laws.{and-both}
@@ -18,7 +18,7 @@ use Rattle.theory_edges.proofs.Ends.{leaf-below, root-below}
 use Rattle.theory_forest.specs.Shape.{Shaped}
 use Rattle.theory_forest.proofs.Shape.{well-formed-shaped}
 use Rattle.theory_forest.proofs.Table.{or-holds, hangs-parts}
-use Rattle.theory_forest.proofs.Forests.{placing-cases, placing-length}
+use Rattle.theory_forest.proofs.Forests.{placing-cases}
 use Rattle.base_tables.specs.Trees.{Parents}
 use Rattle.base_tables.specs.Rows.{inRow, Rows}
 use Rattle.base_tables.specs.Tables.{Tables}
@@ -56,14 +56,11 @@ module _ {n : ℕ} {parents lows highs : List ℕ} {edges : ℕ} (g : Graph) (t 
   few : n ≤ 128
   few = tables-parents t .few
 
-  parent-node : (v : ℕ) → v < n → getD parents v 0 ≡ parent (g .tree) v
-  parent-node = parent-here shaped (tree-of t)
-
   tree-link : (u v : ℕ) → (linkIn n parents u v ≡ true) ↔ TreeEdge g u v
   tree-link u v = (
     λ h.
         let x = link-parts n parents u v h in
-        let is = parent-node v (x .0) in
+        let is = parent-here shaped (tree-of t) v (x .0) in
         let there : among (g .tree) (parent (g .tree) v) v ≡ true = parent-among (g .tree) v (has-parent shaped (tree-of t) v (x .0) (x .1)) in
         rw (x .2, is) there,
     λ h.
@@ -71,7 +68,7 @@ module _ {n : ℕ} {parents lows highs : List ℕ} {edges : ℕ} (g : Graph) (t 
         let f = few in
         let b = t .well-formed .tree-within u v h in
         let below : v < n = omega (arith, b .1) in
-        let is : u ≡ getD parents v 0 = parent-only (g .tree) u v (t .well-formed .one-parent) h ∙ sym (parent-node v below) in
+        let is : u ≡ getD parents v 0 = parent-only (g .tree) u v (t .well-formed .one-parent) h ∙ sym (parent-here shaped (tree-of t) v below) in
         link-intro n parents u v below (λ e. omega (arith, b .0)) is,
   )
 
@@ -98,21 +95,6 @@ module _ {n : ℕ} {parents lows highs : List ℕ} {edges : ℕ} (g : Graph) (t 
 
     node : (v : ℕ) → v < n → v < g .nodes
     node v h = let same = t .nodes in omega arith
-
-    pub placing-links : Links n bytes
-    placing-links =
-        let same = t .nodes in
-        let long : length (take n bytes) ≡ g .nodes = placing-length g (take n bytes) is-placing in
-        record {
-          long = omega (arith, length-take n bytes);
-          node-or-none = λ v h other.
-              ⊎-elim
-              (λ (e : at (take n bytes) v ≡ none). absurd (other (sym (byte v h) ∙ e)))
-              (λ (k : hangs g (take n bytes) (at (take n bytes) v) v ≡ true).
-              let below : at (take n bytes) v < g .nodes = leaf-below g (at (take n bytes) v) (hangs-parts g (take n bytes) (at (take n bytes) v) v k .0) in
-              omega (arith, byte v h))
-              (placing-cases g (take n bytes) v is-placing (node v h));
-        }
 
     hanging-link : (u v : ℕ) → (linkIn n bytes u v ≡ true) ↔ (hangs g (take n bytes) u v ≡ true)
     hanging-link u v = (

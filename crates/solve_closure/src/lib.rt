@@ -3,10 +3,10 @@
 // over the rows that it extends.
 use base_nodeset::NodeSet;
 use base_nodeset::Popped;
-use graph::NONE;
 use base_tables::rows::in_row;
 use base_tables::rows::put_at;
 use base_tables::rows::set_at;
+use graph::NONE;
 ghost use mathlib.Core.Path.{_≡_};
 ghost use mathlib.Core.Bool.{true, false, _&&_};
 ghost use mathlib.Core.List.{List};

@@ -88,14 +88,11 @@ module _ (n : ℕ) (joined : ℕ → ℕ → Bool) (queue came place : List ℕ)
             (rw (eq-eqb v v refl)) (λ j o. rw (ne-eqb j v o)) in
             omega (arith, more, q .found-are, count-le n (λ w. eqb w v || seenIn place w))
 
-    old-node : (k : ℕ) → k < found → getD (set queue found v) k 0 ≡ getD queue k 0
-    old-node k h = getD-set-other queue found k v 0 (λ (e : k ≡ found). omega arith)
+    old-entry : (table : List ℕ) (x k : ℕ) → k < found → getD (set table found x) k 0 ≡ getD table k 0
+    old-entry table x k h = getD-set-other table found k x 0 (λ (e : k ≡ found). omega arith)
 
     new-node : getD (set queue found v) found 0 ≡ v
     new-node = getD-set-same queue found v 0 (omega (arith, room, q .queue-long))
-
-    old-came : (k : ℕ) → k < found → getD (set came found from) k 0 ≡ getD came k 0
-    old-came k h = getD-set-other came found k from 0 (λ (e : k ≡ found). omega arith)
 
     new-came : getD (set came found from) found 0 ≡ from
     new-came = getD-set-same came found from 0 (omega (arith, room, q .came-long))
@@ -133,22 +130,22 @@ module _ (n : ℕ) (joined : ℕ → ℕ → Bool) (queue came place : List ℕ)
           found-are = one-longer;
           came-from = λ k p h.
               last-or-old k found h
-              (λ (e : k ≡ found). rw (e, new-came, new-node, old-node from before) (before, j))
+              (λ (e : k ≡ found). rw (e, new-came, new-node, old-entry queue v from before) (before, j))
               (λ (l : k < found).
               let old = q .came-from k p l in
               let less = old .0 in
-              rw (old-came k l, old-node k l, old-node (getD came k 0) (omega arith)) old);
+              rw (old-entry came from k l, old-entry queue v k l, old-entry queue v (getD came k 0) (omega arith)) old);
           node-at = λ k h.
               last-or-old k found h
               (λ (e : k ≡ found). rw (e, new-node, new-place) (small, refl))
-              (λ (l : k < found). rw (old-node k l, old-place (getD queue k 0) (apart k l)) (q .node-at k l));
+              (λ (l : k < found). rw (old-entry queue v k l, old-place (getD queue k 0) (apart k l)) (q .node-at k l));
           place-of = λ w h s.
               by-bool (eqb w v)
               (λ t. let e : w ≡ v = eqb-true w v t in rw (e, new-place, new-node) (omega arith, refl))
               (λ t.
               let o : w ≡ v → ⊥ = eqb-false w v t in
               let old = q .place-of w h (sym (seen-set-other place v found w o) ∙ s) in
-              rw (old-place w o, old-node (getD place w 0) (old .0)) (omega (arith, old .0), old .1));
+              rw (old-place w o, old-entry queue v (getD place w 0) (old .0)) (omega (arith, old .0), old .1));
         }
 
     pub reached-new : (b : Bool) → b ≡ joined (getD queue from 0) v → not b ≡ false
@@ -158,7 +155,7 @@ module _ (n : ℕ) (joined : ℕ → ℕ → Bool) (queue came place : List ℕ)
           holds = pushed (sym e ∙ not-false b h);
           grown = record {
             more = omega arith;
-            same = old-node;
+            same = old-entry queue v;
             still = λ w s.
                 by-bool (eqb w v)
                 (λ t. let e : w ≡ v = eqb-true w v t in rw e is-seen)

@@ -3,19 +3,19 @@
 mod minimal;
 mod search;
 
-use graph::NONE;
 use base_tables::rows::copy_rows;
 use base_tables::rows::set_at;
 use base_tables::trees::tied;
+use graph::DOMINANCE;
+use graph::NONE;
+use graph::TREE;
 use minimal::first_leaf;
 use minimal::minimize;
 use minimal::take_out;
 use search::search;
-use graph::DOMINANCE;
-use graph::TREE;
 ghost use mathlib.Core.Path.{_≡_};
 ghost use mathlib.Core.Bool.{true};
-ghost use Prim.Native.Nat.{_+_, _*_, _≤_, _<_};
+ghost use Prim.Native.Nat.{_*_, _≤_, _<_};
 ghost use lib.ListN.{length, take, drop};
 ghost use Rattle.graph.specs.Cycle.{hypernormalCycle};
 ghost use Rattle.solve_cycle.specs.Thinning.{Unsolved};

@@ -1,7 +1,7 @@
 // A search from a node over edges taken either way, breadth first.
-use graph::NONE;
 use base_tables::rows::in_row;
 use base_tables::trees::tied;
+use graph::NONE;
 ghost use mathlib.Core.Path.{_≡_};
 ghost use Prim.Native.Nat.{_≤_, _<_};
 ghost use lib.ListN.{length, getD};

@@ -1,6 +1,6 @@
 // Where no choice is left: each root under the leaf of its one edge that stays.
-use graph::NONE;
 use base_tables::rows::set_at;
+use graph::NONE;
 ghost use mathlib.Core.Path.{_≡_};
 ghost use Prim.Native.Nat.{_≤_};
 ghost use lib.ListN.{length, take, drop};

@@ -1,8 +1,8 @@
 // Rule 1: from a solved form to a configuration.
 use base_nodeset::NodeSet;
-use graph::NONE;
 use base_tables::trees::inner_nodes;
 use base_tables::trees::own;
+use graph::NONE;
 ghost use mathlib.Core.Path.{_≡_};
 ghost use mathlib.Core.Bool.{true, cond};
 ghost use Prim.Native.Nat.{_≤_, _<_};

@@ -1,7 +1,7 @@
 // Readings one after the other, as many as there are and as fit, in one walk.
 use base_nodeset::NodeSet;
-use solve_branch::levels::WORDS;
 use graph::LAST;
+use solve_branch::levels::WORDS;
 use solve_numbered::PAIRS;
 use solve_numbered::Reached;
 use solve_numbered::reach;

@@ -214,8 +214,6 @@ pub under-iff : (g : Graph) → Shaped g → (p : List ℕ) (u v : ℕ) → (und
 unfolding under placingTable
 under-iff g s p u v = appended-iff (g .nodes) (g .tree) (hangings g p) (among-hangings g p) (placing-edge-within g p s) u v
 
--- both are decided
-
 -- no cycle
 
 pub acyclic-iff : (g : Graph) → Shaped g → (acyclic g ≡ true) ↔ ((u : ℕ) → Descent g u u → ⊥)

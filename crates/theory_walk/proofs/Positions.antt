@@ -1,5 +1,5 @@
 -- Where the readings of the graph at the decisions stand in the list: it is what is passed, those readings, and those after
--- them (`position`). Entering a half splits what is next at the choice, and turning to a second half takes its readings
+-- them. Entering a half splits what is next at the choice, and turning to a second half takes its readings
 -- from those that come after.
 use Prim.Native.Nat.{ℕ}
 use mathlib.Core.Path.{_≡_, refl, sym, ap, _∙_}
@@ -39,8 +39,6 @@ after-dropped {g} ds a b s x n =
     let l : Last g ds (first a b) = valid-popped g ds (first a b) x in
     let e : listed (half (graphAt g ds) (second a b)) ≡ [] = listed-empty (half (graphAt g ds) (second a b)) (half-shaped (graphAt g ds) (graph-shaped s (l .before)) (second a b) (l .choice)) n in
     after-first g ds a b ∙ ap (λ (r : List (List ℕ)). r ++ after g ds) e
-
--- where the readings of the graph at the decisions stand
 
 -- entering a half
 

@@ -1,4 +1,3 @@
-use denote.Ref.{now}
 use lib.ListN.{getD, length}
 use Rattle.sheet_encode.specs.Tidy.{treeBytes, treePart}
 use Rattle.sheet_encode.proofs.Runs.{tree-part-none, tree-part-more, tree-part-longer}

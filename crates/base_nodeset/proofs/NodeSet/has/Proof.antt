@@ -1,5 +1,4 @@
 -- The word that k is in, and the bit of it.
-use Prim.Native.Nat.{_-_}
 use mathlib.Core.Path.{sym}
 use borrow.Author.Needs.{needs}
 use Rattle.base_nodeset.specs.Set.{bit}
