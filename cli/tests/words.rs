@@ -73,6 +73,14 @@ fn the_chain_of_two() {
     assert_eq!(run(&["fragments"], &sheet), done("0 1 2\n3 4 2\n6 7 1\n8 9 1\n10 11 1\n"));
 }
 
+// README's first screen: "every" above "a", then "a" above "every".
+#[test]
+fn every_linguist_reads_a_paper() {
+    let (sheet, status) = bytes(&["encode"], &sample("every-linguist.txt"));
+    assert_eq!(status, 0);
+    assert_eq!(run(&["list"], &sheet), done("readings 2\n1 3:2 6:5\n2 0:5 6:2\n"));
+}
+
 #[test]
 fn a_chain_is_counted_and_listed() {
     // 000, Section 9.

@@ -102,7 +102,14 @@ fn tree_edges(parent: &[u8], n: usize) -> usize
 }
 
 // The tidy sheet of the graph in these tables.
-fn write(n: usize, parent: &[u8], low: &[u64], high: &[u64], edges: usize, out: &mut [u8]) -> Tidied
+pub fn write(
+    n: usize,
+    parent: &[u8],
+    low: &[u64],
+    high: &[u64],
+    edges: usize,
+    out: &mut [u8],
+) -> Tidied
     requires { ⌜ TidyTables n (now parent) (now low) (now high) edges ⌝ }
     ensures { λ r. ⌜
         ((h : TidyTables n (now (parent .entry)) (now (low .entry)) (now (high .entry)) edges) → TidiesTo (h .graph) r (now (out .entry)) (now (out .exit)))
