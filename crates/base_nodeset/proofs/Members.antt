@@ -1,4 +1,4 @@
--- Going through the members of a set, the lowest first: there is one while the set is not empty, and it leaves one less.
+-- Going through the members of a set, the lowest first: what `pop` finds, and what is in a set without a member.
 -- All members are below 128, where the high word has its 64 bits.
 use Prim.Native.Nat.{ℕ, _+_, _^_, _≤_, _<_}
 use mathlib.Core.Path.{_≡_, sym, ap, _∙_}
@@ -7,7 +7,7 @@ use native.Mathlib.Omega.{arith}
 use lib.Dec.{eqb, ltb}
 use borrow.Author.Tests.{eq-eqb, ne-eqb, eqb-true, eqb-false, lt-ltb, ltb-true, ltb-false, not-true}
 use Rattle.base_finite.specs.Below.{any, count, least}
-use Rattle.base_finite.proofs.Laws.{and-both, by-bool, not-not, any-found, any-false, count-one-more, least-at, least-below, least-holds}
+use Rattle.base_finite.proofs.Laws.{and-both, by-bool, not-not, any-false, count-one-more, least-below, least-holds}
 use Rattle.base_nodeset.specs.Set.{mem, OfByte, Removed, Lowest, Pops}
 use Rattle.base_nodeset.specs.declared.NodeSet.{NodeSet}
 use Rattle.base_nodeset.specs.declared.Popped.the-variants.{None, Member}
@@ -32,13 +32,6 @@ no-member s b e t = any-false 128 (mem s) (sym (not-not (any 128 (mem s))) ∙ a
 
 pub empty-set : (s : NodeSet) (b : Bool) → b ≡ not (any 128 (mem s)) → b ≡ true → (k : ℕ) → k < 128 → mem s k ≡ false
 empty-set s b e t = no-member s b e (ap not t)
-
--- while the set is not empty, the lowest number k is a member
-pub lowest-in : (s : NodeSet) (b : Bool) (k : ℕ) → b ≡ not (any 128 (mem s)) → not b ≡ true → k ≡ least 128 (mem s) → (k < 128) × (mem s k ≡ true)
-lowest-in s b k e t i =
-    let x = any-found 128 (mem s) (some-member s b e t) in
-    let low : least 128 (mem s) < 128 = omega (arith, least-at 128 (mem s) (x .0) (x .1) (x .2), x .1) in
-    (omega arith, rw i (least-holds 128 (mem s) low))
 
 -- a set without a member
 

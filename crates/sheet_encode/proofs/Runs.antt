@@ -74,6 +74,7 @@ row-first l {x} {left} {rest} first = up-to 128 (first .below)
   where
     gone : (k : ℕ) → k < x → mem rest k ≡ false
     gone k h = first .others k ∙ rw (first .none-lower k h, ne-eqb k x (omega arith))
+
     up-to : (n : ℕ) → x < n → spread n (rowCommand l left) ≡ (3 ∷ l ∷ x ∷ []) ++ spread n (rowCommand l rest)
     up-to zero h = absurd (omega arith)
     up-to (suc n) h =

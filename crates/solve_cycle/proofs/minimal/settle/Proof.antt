@@ -1,5 +1,4 @@
 -- The answer is that of the graph without the edge.
-use denote.Ref.{now}
 use Rattle.solve_cycle.proofs.Thins.{settle-stays, settle-goes}
 use borrow.Author.Needs.{needs}
 use Rattle.solve_cycle.proofs.minimal.settle.Statement.{statement}
