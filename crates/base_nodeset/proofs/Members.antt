@@ -1,4 +1,4 @@
--- Going through the members of a set, the lowest first: there is one while the set is not empty, and it leaves one less.
+-- Going through the members of a set, the lowest first: what `pop` finds, and what is in a set without a member.
 -- All members are below 128, where the high word has its 64 bits.
 use Prim.Native.Nat.{ℕ, _+_, _^_, _≤_, _<_}
 use mathlib.Core.Path.{_≡_, sym, ap, _∙_}

@@ -1,4 +1,5 @@
 pub mod Stored
+pub mod Tops
 pub mod Parents
 pub mod TreeLaws
 pub mod Climbing

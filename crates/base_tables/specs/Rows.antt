@@ -32,3 +32,16 @@ pub record Rows (R : ℕ → ℕ → Type 0) (low high : List ℕ) : Type 0 wher
   pub low-long : length low ≡ 128
   pub high-long : length high ≡ 128
   pub row-is : (u v : ℕ) → (inRow low high u v ≡ true) ↔ R u v
+
+-- a row has with v all that row v has
+abbrev pub Closed : (ℕ → ℕ → Bool) → Type 0
+Closed rows = (u v w : ℕ) → rows u v ≡ true → rows v w ≡ true → rows u w ≡ true
+
+-- v is in no member's row
+abbrev pub NoneAbove : (ℕ → ℕ → Bool) → (ℕ → Bool) → ℕ → Type 0
+NoneAbove rows set v = (x : ℕ) → set x ≡ true → rows x v ≡ true → ⊥
+
+-- The members of the set that are in no member's row. Of rows that are not closed only a bound is said.
+pub record Tops (rows : ℕ → ℕ → Bool) (set r : NodeSet) : Type 0 where
+  pub of-set : (v : ℕ) → mem r v ≡ true → mem set v ≡ true
+  pub exact : Closed rows → (v : ℕ) → (mem r v ≡ true) ↔ ((mem set v ≡ true) × NoneAbove rows (mem set) v)

@@ -1,5 +1,4 @@
 pub mod Ends
-pub mod Tops
 pub mod Staying
 pub mod Choices
 pub mod Settling

@@ -8,9 +8,10 @@ use mathlib.Core.Logic.{_⊎_, inl, inr, ⊎-elim, _↔_}
 use native.Mathlib.Omega.{arith}
 use borrow.Author.Tests.{not-true}
 use Rattle.base_finite.specs.Below.{any}
-use Rattle.base_finite.proofs.Laws.{and-both, and-intro, any-at, any-none, not-holding}
-use Rattle.base_nodeset.specs.Set.{mem}
+use Rattle.base_finite.proofs.Laws.{and-both, and-intro, any-at, any-none, not-holding, test-ext}
+use Rattle.base_nodeset.specs.Set.{mem, Intersection}
 use Rattle.base_nodeset.specs.declared.NodeSet.{NodeSet}
+use Rattle.base_nodeset.proofs.Members.{Small}
 use Rattle.graph.specs.Graph.{Graph, root, leaf, Descent, one, more}
 use Rattle.graph.specs.Order.{Kept}
 use Rattle.theory_edges.proofs.Ends.{root-below}
@@ -19,9 +20,9 @@ use Rattle.theory_forest.proofs.Closure.{path-trans}
 use Rattle.theory_forest.proofs.Fragments.{leaf-childless}
 use Rattle.theory_list.specs.Redundancy.{Loopless}
 use Rattle.theory_list.proofs.Keeping.{kept-rows}
-use Rattle.base_tables.specs.Rows.{inRow, Rows}
+use Rattle.base_tables.specs.Rows.{inRow, IsRow, Rows, Tops}
 use Rattle.solve_reduce.specs.Reduced.{Ends}
-use Rattle.solve_reduce.specs.Staying.{Closed, topIn, headOf}
+use Rattle.solve_reduce.specs.Staying.{headOf, Heads}
 
 -- where a path from a leaf comes to is a root, or below a root that the path comes to
 enters : (g : Graph) → Shaped g → {l x : ℕ} → leaf g l ≡ true → Descent g l x → (y : ℕ) × (root g y ≡ true) × Descent g l y × ((y ≡ x) ⊎ Descent g y x)
@@ -41,12 +42,9 @@ enters g s h (more {v = v} {w = x} p (inl t)) =
     )
 
 module _ (g : Graph) (s : Shaped g) (n : ℕ) (leaves roots : NodeSet) (low high : List ℕ) (ends : Ends g n leaves roots) (rows : Rows (Descent g) low high) where
-  pub closed : Closed low high
-  closed u v w p q = rows .row-is u w .1 (path-trans (rows .row-is u v .0 p) (rows .row-is v w .0 q))
-
   -- an edge stays just where the row of its leaf says so
   pub head-kept : Loopless g → (l v : ℕ) → ((mem leaves l && headOf roots low high l v) ≡ true) ↔ Kept g l v
-  unfolding headOf topIn
+  unfolding headOf
   head-kept free l v = (
     λ h.
         let a = and-both (mem leaves l) ((inRow low high l v && mem roots v) && not (any 128 between)) h in
@@ -81,3 +79,38 @@ module _ (g : Graph) (s : Shaped g) (n : ℕ) (leaves roots : NodeSet) (low high
     where
       between : ℕ → Bool
       between x = (inRow low high l x && mem roots x) && inRow low high x v
+
+-- the roots in a row, and the tops of them
+pub heads-row : (roots : NodeSet) (low high : List ℕ) (l : ℕ) (row set r : NodeSet) → Small roots → IsRow (inRow low high) l row → Intersection row roots set → Tops (inRow low high) set r
+    → Heads roots low high l r
+unfolding headOf
+heads-row roots low high l row set r small is-row is-set tops =
+    record {
+      of-roots = λ v m. in-roots v (tops .of-set v m);
+      exact = λ closed v.
+          let between : ℕ → Bool = λ x. (inRow low high l x && mem roots x) && inRow low high x v in
+          test-ext (mem r v) ((inRow low high l v && mem roots v) && not (any 128 between))
+          (λ (t : mem r v ≡ true).
+          let p = tops .exact closed v .0 t in
+          let none : any 128 between ≡ false =
+          any-none 128 between (λ x h.
+          not-holding ((inRow low high l x && mem roots x) && inRow low high x v) (λ e.
+          let b = and-both (inRow low high l x && mem roots x) (inRow low high x v) e in
+          p .1 x (set-is x ∙ b .0) (b .1))) in
+          rw (sym (set-is v) ∙ p .0, none))
+          (λ (t : ((inRow low high l v && mem roots v) && not (any 128 between)) ≡ true).
+          let b = and-both (inRow low high l v && mem roots v) (not (any 128 between)) t in
+          tops .exact closed v .1 (
+            set-is v ∙ b .0,
+            λ x h e.
+                true≢false
+                (sym (any-at 128 between x (small x (in-roots x h)) (and-intro (inRow low high l x && mem roots x) (inRow low high x v) (sym (set-is x) ∙ h) e))
+                ∙ not-true (any 128 between) (b .1)),
+          ));
+    }
+  where
+    set-is : (x : ℕ) → mem set x ≡ (inRow low high l x && mem roots x)
+    set-is x = is-set x ∙ rw (is-row x)
+
+    in-roots : (x : ℕ) → mem set x ≡ true → mem roots x ≡ true
+    in-roots x h = and-both (mem row x) (mem roots x) (sym (is-set x) ∙ h) .1

@@ -22,11 +22,12 @@ use Rattle.theory_forest.proofs.Table.{or-holds, and-holds, eqb-holds, descent-
 use Rattle.theory_list.specs.Redundancy.{Loopless}
 use Rattle.theory_list.specs.Keeping.{Fresh}
 use Rattle.theory_list.proofs.Keeping.{loopless-fewer, kept-adding}
-use Rattle.base_tables.specs.Rows.{inRow, RowPut, Rows}
+use Rattle.base_tables.specs.Rows.{inRow, RowPut, Rows, Closed}
+use Rattle.base_tables.proofs.Tops.{descent-closed}
 use Rattle.solve_closure.specs.Closing.{Extended}
 use Rattle.solve_reduce.specs.Reduced.{secondLowest, several, Forks, Ends, RootsAre, Wide, Reduced, Blank, Revised, Noted}
-use Rattle.solve_reduce.specs.Staying.{Closed, headOf, Heads}
-use Rattle.solve_reduce.proofs.Staying.{closed, head-kept}
+use Rattle.solve_reduce.specs.Staying.{headOf, Heads}
+use Rattle.solve_reduce.proofs.Staying.{head-kept}
 use Rattle.solve_reduce.proofs.Choices.{several-ext, several-none}
 
 -- the first 2n + 1 words copied
@@ -190,7 +191,7 @@ pub record EnteredSo (n : ℕ) (leaves roots : NodeSet) (base-low base-high : Li
   pub of-set : (l : ℕ) → mem left l ≡ true → mem leaves l ≡ true
   pub wide : Wide low high
   pub same : (u v : ℕ) → u < n → inRow low high u v ≡ inRow base-low base-high u v
-  pub edges : Closed base-low base-high → (v l : ℕ) → v < n → inRow low high (n + v) l ≡ ((mem leaves l && not (mem left l)) && headOf roots base-low base-high l v)
+  pub edges : Closed (inRow base-low base-high) → (v l : ℕ) → v < n → inRow low high (n + v) l ≡ ((mem leaves l && not (mem left l)) && headOf roots base-low base-high l v)
 
 pub enter-start : (n : ℕ) (leaves roots : NodeSet) (base-low base-high low₀ high₀ low₁ high₁ low₂ high₂ : List ℕ)
     → Filled (λ (i : ℕ). getD base-low i 0) n low₀ low₁ → Filled (λ (i : ℕ). getD base-high i 0) n high₀ high₁ → Blank n low₁ high₁ low₂ high₂
@@ -239,7 +240,7 @@ enter-end n leaves roots base-low base-high left low high none so g s ends rows 
       under = λ u v h. (λ t. rows .row-is u v .0 (sym (so .same u v h) ∙ t), λ d. so .same u v h ∙ rows .row-is u v .1 d);
       edges = λ free v l h.
           let stays = head-kept g s n leaves roots base-low base-high ends rows free l v in
-          let is : inRow low high (n + v) l ≡ ((mem leaves l && not (mem left l)) && headOf roots base-low base-high l v) = so .edges (closed g s n leaves roots base-low base-high ends rows) v l h in (
+          let is : inRow low high (n + v) l ≡ ((mem leaves l && not (mem left l)) && headOf roots base-low base-high l v) = so .edges (descent-closed g rows) v l h in (
             λ t.
                 let a = and-both (mem leaves l && not (mem left l)) (headOf roots base-low base-high l v) (sym is ∙ t) in
                 stays .0 (and-intro (mem leaves l) (headOf roots base-low base-high l v) (and-both (mem leaves l) (not (mem left l)) (a .0) .0) (a .1)),

@@ -1,61 +1,18 @@
 -- The loops that find what is free: the invariant of each, what it is at first, after a turn and at the end.
 use Prim.Native.Nat.{ℕ, _+_, _≤_, _<_}
 use mathlib.Core.Path.{_≡_, refl, sym, subst, fun-ext, _∙_}
-use mathlib.Core.Bool.{Bool, true, false, not, true≢false}
+use mathlib.Core.Bool.{Bool, true, false, true≢false}
 use mathlib.Core.Logic.{_⊎_, inl, inr, ⊎-elim, _↔_}
 use native.Mathlib.Omega.{arith}
-use borrow.Author.Tests.{not-true}
 use Rattle.base_finite.specs.Below.{any, count}
-use Rattle.base_finite.proofs.Laws.{by-bool, and-both, or-cases, or-left, or-right, any-found}
-use Rattle.base_nodeset.specs.Set.{mem, Empty, Removed, Union, Intersection, Difference, Lowest}
+use Rattle.base_finite.proofs.Laws.{and-both, or-cases, or-left, or-right, any-found}
+use Rattle.base_nodeset.specs.Set.{mem, Empty, Removed, Union, Intersection, Lowest}
 use Rattle.base_nodeset.specs.declared.NodeSet.{NodeSet}
 use Rattle.base_nodeset.proofs.Members.{Small, removed-member, removed-cases, removed-gone, removed-out, removed-other, one-less}
-use Rattle.base_tables.specs.Rows.{IsRow}
+use Rattle.base_tables.specs.Rows.{IsRow, Closed, Tops}
 use Rattle.solve_test.specs.Tables.{Symmetric}
-use Rattle.solve_test.specs.Free.{Spread, start, Spreads, Apart, Tops, others, Taken, Taking, none-taken, then-taken, Round}
+use Rattle.solve_test.specs.Free.{Spread, start, Spreads, Apart, others, Taken, Taking, none-taken, then-taken, Round}
 use Rattle.solve_test.proofs.Spreading.{spread-within, spread-map, spread-back}
-
--- the tops: what no member gone through stands above
-
-pub record TopsSo (below : ℕ → ℕ → Bool) (rem left set : NodeSet) : Type 0 where
-  pub of-rem : (k : ℕ) → mem left k ≡ true → mem rem k ≡ true
-  pub set-is : (F : ℕ) → (mem set F ≡ true) ↔ ((mem rem F ≡ true) × ((y : ℕ) → mem rem y ≡ true → mem left y ≡ false → below y F ≡ true → ⊥))
-
-pub tops-start : (below : ℕ → ℕ → Bool) (rem : NodeSet) → TopsSo below rem rem rem
-tops-start below rem =
-    record {
-      of-rem = λ k h. h;
-      set-is = λ F. (λ h. (h, λ y m n. absurd (true≢false (sym m ∙ n))), λ h. h .0);
-    }
-
-pub tops-more : (below : ℕ → ℕ → Bool) (rem left set row set′ left′ : NodeSet) (y : ℕ) → TopsSo below rem left set → Lowest left y left′ → IsRow below y row → Difference set row set′ → TopsSo below rem left′ set′
-tops-more below rem left set row set′ left′ y t first is d =
-    record {
-      of-rem = λ k h. t .of-rem k (removed-member left y left′ (first .others) k h .0);
-      set-is = λ F. (
-        λ h.
-            let b = and-both (mem set F) (not (mem row F)) (sym (d F) ∙ h) in
-            let s = t .set-is F .0 (b .0) in
-            let clear : below y F ≡ false = sym (is F) ∙ not-true (mem row F) (b .1) in (
-              s .0,
-              λ z mz n e.
-                  removed-cases left y left′ (first .others) z n
-                  (λ (i : z ≡ y). true≢false (sym (rw i at e) ∙ clear))
-                  (λ a (o : mem left z ≡ false). s .1 z mz o e),
-            ),
-        λ h.
-            let in-set : mem set F ≡ true = t .set-is F .1 (h .0, λ z mz n e. h .1 z mz (removed-out left y left′ (first .others) z n) e) in
-            by-bool (mem row F)
-            (λ e. absurd (h .1 y (t .of-rem y (first .in-set)) (removed-gone left y left′ (first .others)) (sym (is F) ∙ e)))
-            (λ e. d F ∙ rw (in-set, e)),
-      );
-    }
-
-pub tops-end : (below : ℕ → ℕ → Bool) (rem left set : NodeSet) → TopsSo below rem left set → Empty left → Tops below rem set
-tops-end below rem left set t none F = (
-  λ h. let s = t .set-is F .0 h in (s .0, λ y m e. s .1 y m (none y) e),
-  λ h. t .set-is F .1 (h .0, λ y m n e. h .1 y m e),
-)
 
 -- the leaves gone through are apart, and seen is what is reached from below one of them
 
@@ -183,7 +140,7 @@ taking-trans p none-taken = p
 taking-trans p (then-taken F q f r) = then-taken F (taking-trans p q) f r
 
 pub record RoundSo (below near leaves : ℕ → ℕ → Bool) (rem tops rest left : NodeSet) : Type 0 where
-  pub taking : Taking below near leaves rem rest
+  pub taking : Closed below → Taking below near leaves rem rest
   pub of-rem : (k : ℕ) → mem rest k ≡ true → mem rem k ≡ true
   pub of-tops : (k : ℕ) → mem left k ≡ true → (mem tops k ≡ true) × (mem rest k ≡ true)
   pub tried : ((rest ≡ rem) × ((F : ℕ) → mem tops F ≡ true → mem left F ≡ false → Apart below near (leaves F) (others (mem rem) F) → ⊥)) ⊎ (count 128 (mem rest) < count 128 (mem rem))
@@ -191,9 +148,9 @@ pub record RoundSo (below near leaves : ℕ → ℕ → Bool) (rem tops rest lef
 pub round-start : (below near leaves : ℕ → ℕ → Bool) (rem tops : NodeSet) → Tops below rem tops → RoundSo below near leaves rem tops rem tops
 round-start below near leaves rem tops is =
     record {
-      taking = none-taken;
+      taking = λ closed. none-taken;
       of-rem = λ k h. h;
-      of-tops = λ k h. (h, is k .0 h .0);
+      of-tops = λ k h. (h, is .of-set k h);
       tried = inl (refl, λ F h n. absurd (true≢false (sym h ∙ n)));
     }
 
@@ -209,10 +166,12 @@ pub round-more : (below near leaves : ℕ → ℕ → Bool) (rem tops rest left 
     → RoundSo below near leaves rem tops rest left → Taken below near leaves rest f rest′ → RoundSo below near leaves rem tops rest′ left′
 round-more below near leaves rem tops rest left rest′ left′ f is first s (inl (apart, r)) =
     let here = s .of-tops f (first .in-set) in
-    let top = is f .0 (here .0) in
     let less : count 128 (mem rest) ≡ count 128 (mem rest′) + 1 = one-less rest f rest′ (first .below) (here .1) r in
     record {
-      taking = then-taken f (s .taking) (record { member = here .1; none-above = λ y h e. top .1 y (s .of-rem y h) e; one-leaf = apart }) r;
+      taking = λ closed.
+          then-taken f (s .taking closed)
+          (record { member = here .1; none-above = λ y h e. is .exact closed f .0 (here .0) .1 y (s .of-rem y h) e; one-leaf = apart })
+          r;
       of-rem = λ k h. s .of-rem k (removed-member rest f rest′ r k h .0);
       of-tops = λ k h.
           let b = removed-member left f left′ (first .others) k h in
@@ -222,7 +181,7 @@ round-more below near leaves rem tops rest left rest′ left′ f is first s (in
     }
 round-more below near leaves rem tops rest left rest′ left′ f is first s (inr (not-apart, same)) =
     record {
-      taking = subst (λ (z : NodeSet). Taking below near leaves rem z) (sym same) (s .taking);
+      taking = λ closed. subst (λ (z : NodeSet). Taking below near leaves rem z) (sym same) (s .taking closed);
       of-rem = λ k h. s .of-rem k (rw same at h);
       of-tops = λ k h.
           let o = s .of-tops k (removed-member left f left′ (first .others) k h .0) in
@@ -246,10 +205,10 @@ round-end below near leaves rem tops rest left is s none =
     record {
       taking = s .taking;
       fewer = round-fewer s;
-      or-stuck = λ e F free.
+      or-stuck = λ closed e F free.
           ⊎-elim
           (λ (t : (rest ≡ rem) × ((F : ℕ) → mem tops F ≡ true → mem left F ≡ false → Apart below near (leaves F) (others (mem rem) F) → ⊥)).
-          t .1 F (is F .1 (free .member, free .none-above)) (none F) (free .one-leaf))
+          t .1 F (is .exact closed F .1 (free .member, free .none-above)) (none F) (free .one-leaf))
           (λ (t : count 128 (mem rest) < count 128 (mem rem)). absurd (omega arith))
           (s .tried);
     }

@@ -1,6 +1,6 @@
 -- What is reached by near steps within a set: it grows with what it starts from; where near goes both ways, it is reached
 -- backwards too. The invariant of the loop that finds it: what is not unseen is reached, and gone on from unless pending.
-use Prim.Native.Nat.{ℕ, _+_, _<_}
+use Prim.Native.Nat.{ℕ, _+_}
 use mathlib.Core.Path.{_≡_, refl, sym, _∙_}
 use mathlib.Core.Bool.{Bool, true, false, not, _&&_, _||_, true≢false}
 use mathlib.Core.Logic.{_⊎_, inl, inr, ⊎-elim}

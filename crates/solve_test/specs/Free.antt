@@ -8,6 +8,7 @@ use lib.Dec.{eqb}
 use Rattle.base_finite.specs.Below.{count}
 use Rattle.base_nodeset.specs.Set.{mem, Removed}
 use Rattle.base_nodeset.specs.declared.NodeSet.{NodeSet}
+use Rattle.base_tables.specs.Rows.{NoneAbove, Closed}
 
 -- what is reached from `from` by near steps, all within a set
 pub data Spread (near : ℕ → ℕ → Bool) (within from : ℕ → Bool) : ℕ → Type 0 where
@@ -21,13 +22,6 @@ Spreads near within from r = (f : ℕ) → (mem r f ≡ true) ↔ Spread near wi
 abbrev pub Apart : (ℕ → ℕ → Bool) → (ℕ → ℕ → Bool) → (ℕ → Bool) → (ℕ → Bool) → Type 0
 Apart below near leaves within =
     (l m f : ℕ) → leaves l ≡ true → leaves m ≡ true → Spread near within (below l) f → Spread near within (below m) f → l ≡ m
-
--- no member stands above F
-abbrev pub NoneAbove : (ℕ → ℕ → Bool) → (ℕ → Bool) → ℕ → Type 0
-NoneAbove below rem F = (y : ℕ) → rem y ≡ true → below y F ≡ true → ⊥
-
-abbrev pub Tops : (ℕ → ℕ → Bool) → NodeSet → NodeSet → Type 0
-Tops below rem r = (F : ℕ) → (mem r F ≡ true) ↔ ((mem rem F ≡ true) × NoneAbove below (mem rem) F)
 
 -- the set without F
 abbrev pub others : (ℕ → Bool) → ℕ → ℕ → Bool
@@ -53,11 +47,11 @@ pub data Taking (below near leaves : ℕ → ℕ → Bool) (rem : NodeSet) : Nod
 abbrev pub Stuck : (ℕ → ℕ → Bool) → (ℕ → ℕ → Bool) → (ℕ → ℕ → Bool) → NodeSet → Type 0
 Stuck below near leaves rem = (F : ℕ) → FreeIn below near leaves (mem rem) F → ⊥
 
--- a round takes out free fragments, one at least if there is one
+-- a round takes out free fragments, one at least if there is one, where the rows are closed
 pub record Round (below near leaves : ℕ → ℕ → Bool) (rem r : NodeSet) : Type 0 where
-  pub taking : Taking below near leaves rem r
+  pub taking : Closed below → Taking below near leaves rem r
   pub fewer : count 128 (mem r) ≤ count 128 (mem rem)
-  pub or-stuck : count 128 (mem r) ≡ count 128 (mem rem) → Stuck below near leaves rem
+  pub or-stuck : Closed below → count 128 (mem r) ≡ count 128 (mem rem) → Stuck below near leaves rem
 
 -- true: all are taken out; false: some are left, and none of them is free
 abbrev pub Ended : (ℕ → ℕ → Bool) → (ℕ → ℕ → Bool) → (ℕ → ℕ → Bool) → NodeSet → Bool → Type 0

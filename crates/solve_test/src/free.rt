@@ -2,14 +2,15 @@
 use base_nodeset::NodeSet;
 use base_nodeset::Popped;
 use base_tables::rows::set_at;
+use base_tables::rows::tops;
 ghost use mathlib.Core.Path.{_≡_};
 ghost use mathlib.Core.Bool.{true};
 ghost use mathlib.Core.Logic.{_↔_};
 ghost use Prim.Native.Nat.{_<_};
 ghost use Rattle.base_nodeset.specs.Set.{mem};
-ghost use Rattle.base_tables.specs.Rows.{Long, inRow};
+ghost use Rattle.base_tables.specs.Rows.{Long, inRow, Closed};
 ghost use Rattle.solve_test.specs.Tables.{Symmetric};
-ghost use Rattle.solve_test.specs.Free.{Spreads, Apart, Tops, Taken, Round, Ended};
+ghost use Rattle.solve_test.specs.Free.{Spreads, Apart, Taken, Round, Ended};
 
 // What is reached from `from` by steps to near members of `within`. Pending is what is reached and not yet gone on from.
 fn grow(near_low: &[u64], near_high: &[u64], from: NodeSet, within: NodeSet) -> NodeSet
@@ -58,22 +59,6 @@ fn apart(
         }
         let joined = grow(near_low, near_high, below, within);
         seen = seen.union(joined);
-        left = rest;
-    }
-}
-
-// The members that no member stands above.
-fn tops(low: &[u64], high: &[u64], rem: NodeSet) -> NodeSet
-    requires { ⌜ Long (now low) (now high) ⌝ }
-    ensures { λ r. ⌜ Tops (inRow (now (low .entry)) (now (high .entry))) rem r ⌝ }
-{
-    let mut left = rem;
-    let mut set = rem;
-    loop {
-        let Popped::Member(y, rest) = left.pop() else {
-            return set;
-        };
-        set = set.difference(set_at(low, high, y));
         left = rest;
     }
 }
@@ -146,8 +131,9 @@ pub fn eliminate(
     requires { ⌜ Long (now low) (now high) × Long (now «near_low») (now «near_high») × Long (now «leaf_low») (now «leaf_high») ⌝ }
     requires { ⌜ Symmetric (inRow (now «near_low») (now «near_high»)) ⌝ }
     ensures { λ r. ⌜
+        (Closed (inRow (now (low .entry)) (now (high .entry))) →
         Ended (inRow (now (low .entry)) (now (high .entry))) (inRow (now («near_low» .entry)) (now («near_high» .entry)))
-        (inRow (now («leaf_low» .entry)) (now («leaf_high» .entry))) roots r
+        (inRow (now («leaf_low» .entry)) (now («leaf_high» .entry))) roots r)
         ⌝ }
 {
     let mut rem = roots;

@@ -6,6 +6,7 @@ use Rattle.base_tables.specs.Rows.{inRow}
 use Rattle.solve_test.proofs.Solved.{answer-is}
 use Rattle.solve_test.proofs.Filled.{blank-rows, near-symmetric}
 use Rattle.base_tables.proofs.TreeLaws.{root-is}
+use Rattle.base_tables.proofs.Tops.{descent-closed}
 use Rattle.solve_test.proofs.solvable.Statement.{statement}
 use Rattle.solve_test.proofs.solvable.Tie as tie
 
@@ -66,7 +67,7 @@ returns c g shaped tree rows =
     answer-is g shaped (inRow (now (s .args .low)) (now (s .args .high)))
     (inRow (n .near-rows .last .1 .1 .1 .0) (n .near-rows .last .1 .1 .1 .1 .0)) (inRow (l .leaf-rows .last .1 .1 .1 .0) (l .leaf-rows .last .1 .1 .1 .1 .0))
     (r .root-nodes .result) (λ v. r .root-nodes .ensures v ∙ root-is shaped tree v) (rows .row-is) (n .near-rows .ensures .near-is)
-    (l .leaf-rows .ensures .leaf-of g shaped tree) (c .eliminate .result) (c .eliminate .ensures)
+    (l .leaf-rows .ensures .leaf-of g shaped tree) (c .eliminate .result) (c .eliminate .ensures (descent-closed g rows))
 
 pub solvable-spec : {M : Type 1} → statement M
 solvable-spec =

@@ -1,6 +1,5 @@
 -- The invariant: the edges of the members gone through are revised.
 use native.Mathlib.Omega.{arith}
-use denote.Ref.{now}
 use Rattle.base_finite.specs.Below.{count}
 use Rattle.base_nodeset.specs.Set.{mem}
 use Rattle.solve_reduce.specs.Reduced.{Forks}
