@@ -1,12 +1,12 @@
 -- From what the parts say to what the calls answer, on the tables of a well-formed sheet.
-use Prim.Native.Nat.{ℕ, _+_, _-_, _*_, _≤_, _<_, min}
+use Prim.Native.Nat.{ℕ, _+_, _-_, _*_, _≤_, _<_}
 use mathlib.Core.Path.{_≡_, refl, sym, ap, subst, _∙_}
-use mathlib.Core.List.{List, _++_}
+use mathlib.Core.List.{List, _++_, append-assoc}
 use mathlib.Core.Bool.{Bool, true, false}
 use mathlib.Core.Logic.{_⊎_, inl, inr, ⊎-elim}
-use native.Mathlib.Omega.{arith}
+use native.Mathlib.Omega.{arith, by-contra}
 use lib.ListN.{length, take, drop, take-append-drop}
-use lib.Seq.{take-at, drop-at}
+use lib.Seq.{take-at, drop-at, drop-append-le, length-take-le}
 use denote.Enum.Declared.{tagOf}
 use Rattle.graph.specs.Graph.{Graph}
 use Rattle.graph.specs.Placing.{SolvedForm, Solvable, Unsolvable}
@@ -32,9 +32,11 @@ use Rattle.check_placing.specs.Answered.{Answered}
 use Rattle.check_placing.specs.declared.Answers.{Answers}
 use Rattle.solve_numbered.specs.Numbered.{Finds}
 use Rattle.solve_stretch.specs.Stretch as stretches
+use Rattle.solve_stretch.specs.Stretch.{placings}
+use Rattle.solve_stretch.proofs.Placings.{placings-one, placings-grow}
 use Rattle.solve_start.specs.Started.{WalkableOf}
 use Rattle.solve_start.specs.declared.Start.{Start}
-use Rattle.counter.specs.Calls.{Counts, ReadingCall, StretchCall, ConfigurationCall, DrawingCall}
+use Rattle.counter.specs.Calls.{reach, Counts, CycleWritten, ReadingCall, StretchCall, HandedCall, ConfigurationCall, DrawingCall}
 use Rattle.counter.specs.Calls as calls
 use Rattle.counter.specs.Checks.{PlacingCall}
 use Rattle.counter.specs.Checks as checks
@@ -49,12 +51,22 @@ use Rattle.counter.specs.declared.PlacingChecked.the-variants.{Answers a
 pub some-listed : (g : Graph) → Shaped g → Solvable g → 0 < length (listed g)
 some-listed g s f = let o = one-below g s (f .0) (f .1) in omega (arith, o .1)
 
--- the first bytes of a buffer that a reading was written into
-reading-first : (g : Graph) → Shaped g → (i : ℕ) → i < length (listed g) → (n : ℕ) → n ≡ g .nodes → (rest : List ℕ)
-    → (take n (entry (listed g) i ++ rest) ≡ entry (listed g) i) × (drop n (entry (listed g) i ++ rest) ≡ rest)
-reading-first g s i h n e rest =
-    let long : length (entry (listed g) i) ≡ n = placing-length g (entry (listed g) i) (listed-solved g s i h .is-placing) ∙ sym e in
-    (take-at (entry (listed g) i) rest n long, drop-at (entry (listed g) i) rest n long)
+-- a reading has a byte for each node
+reading-long : {g : Graph} {ps : List (List ℕ)} → Listing g ps → (i : ℕ) → i < length ps → length (entry ps i) ≡ g .nodes
+reading-long {g} {ps} l i h = placing-length g (entry ps i) (l .only-readings i h .solved .is-placing)
+
+-- a call that ends at k had room for no more, so that none of the same list ends later
+pub no-later : {g : Graph} {ps : List (List ℕ)} → Listing g ps → {place : ℕ} (old : List ℕ) (k last : ℕ) → place < k → last ≤ reach ps → length (placings ps place last) ≤ length old
+    → (k ≡ reach ps) ⊎ (length old < length (placings ps place k) + g .nodes) → last ≤ k
+no-later l old k last from within fits (inl e) = omega (arith, within, e)
+no-later {g} {ps} l {place} old k last from within fits (inr full) =
+    by-contra last k (λ (t : k < last). omega (arith, full, fits, placings-grow ps (g .nodes) (reading-long l) place k (omega (arith, from)) last t (omega (arith, within))))
+
+-- what is written into the first bytes alone is written into all
+put-first : (l : List ℕ) (room : ℕ) (old : List ℕ) → length l ≤ length (take room old) → (l ++ drop (length l) (take room old)) ++ drop room old ≡ l ++ drop (length l) old
+put-first l room old h =
+    append-assoc l (drop (length l) (take room old)) (drop room old)
+    ∙ ap (λ (m : List ℕ). l ++ m) (sym (drop-append-le (length l) (take room old) (drop room old) h) ∙ ap (drop (length l)) (take-append-drop room old))
 
 -- what a call for reading 1 left that was not refused
 record FirstRead (g : Graph) (old new : List ℕ) : Type 0 where
@@ -79,22 +91,17 @@ module _ {n : ℕ} {parents heads-low heads-high : List ℕ} (s : SheetTables n 
   pub no-count : Unsolvable (s .graph) → Counts (s .graph) (CountRefused No-reading)
   no-count u = calls.Counts.none u
 
-  pub small-reading : (place : ℕ) (old : List ℕ) → length old < 2 * n → ReadingCall (s .graph) place old (Refused SmallBuffer) place old
-  small-reading place old h = calls.ReadingCall.small (omega (arith, nodes, h))
+  pub small-call : (room place : ℕ) (old : List ℕ) → length old < 2 * n → HandedCall (s .graph) room place old (Refused SmallBuffer) place old
+  small-call room place old h = (λ _. calls.ReadingCall.small (omega (arith, nodes, h)), λ _. calls.StretchCall.small (omega (arith, nodes, h)))
 
-  pub no-reading : (place : ℕ) (old new : List ℕ) (c : ℕ) → 2 * n ≤ length old → Unsolvable (s .graph) → 2 * c ≤ 2 * n → length new ≡ length old
+  pub no-reading : (room place : ℕ) (old new : List ℕ) (c : ℕ) → 2 * n ≤ length old → Unsolvable (s .graph) → 2 * c ≤ 2 * n → length new ≡ length old
       → ((u : Unsolved n parents heads-low heads-high) → hypernormalCycle (u .graph) (take (2 * c) new) ≡ true) → drop (2 * c) new ≡ drop (2 * c) old
-      → ReadingCall (s .graph) place old (NoReading c) place new
+      → HandedCall (s .graph) room place old (NoReading c) place new
   unfolding unsolved-tables
-  no-reading place old new c h u within long spelt rest =
-      calls.ReadingCall.none {c = c} (omega (arith, nodes, h)) u (record { fits = omega (arith, h, within); long = long; cycle = spelt (unsolved-tables u); rest = rest })
-
-  -- the same two of a stretch
-  pub unread-stretch : {place : ℕ} {old new : List ℕ} {c : ℕ} → ReadingCall (s .graph) place old (NoReading c) place new → StretchCall (s .graph) place old (NoReading c) place new
-  unread-stretch (calls.ReadingCall.none {c} h u w) = calls.StretchCall.none {c = c} h u w
-
-  pub small-stretch : (place : ℕ) (old : List ℕ) → length old < 2 * n → StretchCall (s .graph) place old (Refused SmallBuffer) place old
-  small-stretch place old h = calls.StretchCall.small (omega (arith, nodes, h))
+  no-reading room place old new c h u within long spelt rest =
+      let enough : 2 * s .graph .nodes ≤ length old = omega (arith, nodes, h) in
+      let w : CycleWritten (s .graph) old c new = record { fits = omega (arith, h, within); long = long; cycle = spelt (unsolved-tables u); rest = rest } in
+      (λ _. calls.ReadingCall.none {c = c} enough u w, λ _. calls.StretchCall.none {c = c} enough u w)
 
   pub small-drawing : (k : ℕ) (old : List ℕ) → length old < 1024 → DrawingCall (s .graph) k old (DrawnRefused SmallBuffer) old
   small-drawing k old h = calls.DrawingCall.small h
@@ -116,48 +123,45 @@ module _ {n : ℕ} {parents heads-low heads-high : List ℕ} (s : SheetTables n 
         let here : k ≡ countAnswer (length (listed (s .graph))) = subst (λ (g : Graph). k ≡ countAnswer (length (listed g))) (x .is) (e (x .sheet)) in
         subst (λ (m : Count). Counts (s .graph) (Readings m)) (sym here) (calls.Counts.counted (listed (s .graph)) lists some)
 
-    module _ {k : ℕ} {old new : List ℕ} {b : Bool} (f : (y : Walkable n parents owners (r .leaves) (r .roots) low high) → Finds (y .graph) k old b new) where
-      here : Finds (s .graph) k old b new
-      here = subst (λ (g : Graph). Finds g k old b new) (x .is) (f (x .sheet))
+    -- of the first `room` bytes lent a stretch made `part`
 
-      pub read-on : (place : ℕ) → k ≡ place + 1 → 2 * n ≤ length old → place < limit → b ≡ true → ReadingCall (s .graph) place old Done k new
-      read-on place is h below e =
-          let y = here .found e in
-          let same : k - 1 ≡ place = omega (arith, is) in
-          let wrote : entry (listed (s .graph)) place ++ drop (s .graph .nodes) old ≡ new = sym (y .1 ∙ ap (λ (i : ℕ). entry (listed (s .graph)) i ++ drop (s .graph .nodes) old) same) in
-          subst (λ (m : ℕ). ReadingCall (s .graph) place old Done m new) (sym is)
-          (subst (λ (m : List ℕ). ReadingCall (s .graph) place old Done (place + 1) m) wrote
-          (calls.ReadingCall.read (listed (s .graph)) (omega (arith, nodes, h)) lists (omega (arith, y .0, is, below))))
+    module _ {room place last : ℕ} (old : List ℕ) {part : List ℕ} (h : 2 * n ≤ length old) (below : room ≤ length old) (f : (y : Walkable n parents owners (r .leaves) (r .roots) low high) → stretches.StretchOf (y .graph) place (take room old) last part) where
+      stretched : stretches.StretchOf (s .graph) place (take room old) last part
+      stretched = subst (λ (g : Graph). stretches.StretchOf g place (take room old) last part) (x .is) (f (x .sheet))
 
-      pub none-left : (place : ℕ) → k ≡ place + 1 → 2 * n ≤ length old → b ≡ false → ReadingCall (s .graph) place old (Refused NoSuchReading) place new
-      none-left place is h e =
-          let y = here .fewer e in
-          subst (λ (m : List ℕ). ReadingCall (s .graph) place old (Refused NoSuchReading) place m) (sym (y .1))
-          (calls.ReadingCall.beyond (listed (s .graph)) (omega (arith, nodes, h)) lists some (omega (arith, y .0, is)))
+      enough : 2 * s .graph .nodes ≤ length old
+      enough = omega (arith, nodes, h)
 
-    pub past-last : (place : ℕ) (old : List ℕ) → 2 * n ≤ length old → limit ≤ place → ReadingCall (s .graph) place old (Refused NoSuchReading) place old
-    past-last place old h over = calls.ReadingCall.beyond (listed (s .graph)) (omega (arith, nodes, h)) lists some (omega (arith, over))
+      lent : length (take room old) ≡ room
+      lent = length-take-le room old below
 
-    module _ {place last : ℕ} {old new : List ℕ} (room : 2 * n ≤ length old) (f : (y : Walkable n parents owners (r .leaves) (r .roots) low high) → stretches.StretchOf (y .graph) place old last new) where
-      stretched : stretches.StretchOf (s .graph) place old last new
-      stretched = subst (λ (g : Graph). stretches.StretchOf g place old last new) (x .is) (f (x .sheet))
-
-      pub none-after : last ≡ place → StretchCall (s .graph) place old (Refused NoSuchReading) place new
+      pub none-after : last ≡ place → HandedCall (s .graph) room place old (Refused NoSuchReading) place (part ++ drop room old)
       none-after e =
           ⊎-elim
-          (λ (y : (min (length (listed (s .graph))) limit ≤ place) × (last ≡ place) × (new ≡ old)).
-          subst (λ (m : List ℕ). StretchCall (s .graph) place old (Refused NoSuchReading) place m) (sym (y .2))
-          (calls.StretchCall.beyond (listed (s .graph)) (omega (arith, nodes, room)) lists some (y .0)))
-          (λ (y : stretches.Filled (s .graph) place old last new). absurd (omega (arith, y .some, e)))
+          (λ (y : (reach (listed (s .graph)) ≤ place) × (last ≡ place) × (part ≡ take room old)).
+          subst (HandedCall (s .graph) room place old (Refused NoSuchReading) place) (sym (ap (λ (l : List ℕ). l ++ drop room old) (y .2) ∙ take-append-drop room old))
+          (λ _. calls.ReadingCall.beyond (listed (s .graph)) enough lists some (y .0), λ _. calls.StretchCall.beyond (listed (s .graph)) enough lists some (y .0)))
+          (λ (y : stretches.Filled (s .graph) place (take room old) last part). absurd (omega (arith, y .some, e)))
           stretched
 
-      pub read-after : (last ≡ place → ⊥) → StretchCall (s .graph) place old Done last new
+      pub read-after : (last ≡ place → ⊥) → HandedCall (s .graph) room place old Done last (part ++ drop room old)
       read-after e =
           ⊎-elim
-          (λ (y : (min (length (listed (s .graph))) limit ≤ place) × (last ≡ place) × (new ≡ old)). absurd (e (y .1)))
-          (λ (y : stretches.Filled (s .graph) place old last new).
-          subst (λ (m : List ℕ). StretchCall (s .graph) place old Done last m) (sym (y .bytes))
-          (calls.StretchCall.read (listed (s .graph)) (omega (arith, nodes, room)) lists (y .some) (y .within) (y .fits) (y .full)))
+          (λ (y : (reach (listed (s .graph)) ≤ place) × (last ≡ place) × (part ≡ take room old)). absurd (e (y .1)))
+          (λ (y : stretches.Filled (s .graph) place (take room old) last part).
+          let ps : List (List ℕ) = listed (s .graph) in
+          subst (HandedCall (s .graph) room place old Done last) (sym (ap (λ (l : List ℕ). l ++ drop room old) (y .bytes) ∙ put-first (placings ps place last) room old (y .fits))) (
+            λ is.
+                let first : place < length ps = omega (arith, y .some, y .within) in
+                let alone : placings ps place (place + 1) ≡ entry ps place = placings-one ps place first in
+                let long : length (entry ps place) ≡ s .graph .nodes = reading-long lists place first in
+                let one : place + 1 ≡ last = omega (arith, y .some, no-later lists (take room old) (place + 1) last (omega arith) (y .within) (y .fits) (inr (omega (arith, lent, ap length alone, long, s .tables .well-formed .some-nodes)))) in
+                subst (λ (k : ℕ). ReadingCall (s .graph) place old Done k (placings ps place k ++ drop (length (placings ps place k)) old)) one
+                (rw (alone, long) (calls.ReadingCall.read ps enough lists (omega (arith, y .some, y .within)))),
+            λ is.
+                calls.StretchCall.read ps enough lists (y .some) (y .within) (omega (arith, y .fits, lent))
+                (subst (λ (k : ℕ). (last ≡ reach ps) ⊎ (k < length (placings ps place last) + s .graph .nodes)) (lent ∙ is) (y .full)),
+          ))
           stretched
 
     pub no-such-drawing : (k : ℕ) (old : List ℕ) → 1024 ≤ length old → (k ≡ 0) ⊎ (limit < k) → DrawingCall (s .graph) k old (DrawnRefused NoSuchReading) old
@@ -167,17 +171,20 @@ module _ {n : ℕ} {parents heads-low heads-high : List ℕ} (s : SheetTables n 
     -- the reading with the number k, in a table of its own
 
     module _ {k : ℕ} {blank placing : List ℕ} {b : Bool} (f : (y : Walkable n parents owners (r .leaves) (r .roots) low high) → Finds (y .graph) k blank b placing) where
+      here : Finds (s .graph) k blank b placing
+      here = subst (λ (g : Graph). Finds g k blank b placing) (x .is) (f (x .sheet))
+
       pub none-to-draw : (old : List ℕ) → 1024 ≤ length old → b ≡ false → DrawingCall (s .graph) k old (DrawnRefused NoSuchReading) old
-      none-to-draw old h e = calls.DrawingCall.beyond (listed (s .graph)) h lists some (inr (let y = here f .fewer e in omega (arith, y .0)))
+      none-to-draw old h e = calls.DrawingCall.beyond (listed (s .graph)) h lists some (inr (let y = here .fewer e in omega (arith, y .0)))
 
       module _ (one : 1 ≤ k) (e : b ≡ true) where
         below : k - 1 < length (listed (s .graph))
-        below = let y = here f .found e in omega (arith, y .0)
+        below = let y = here .found e in omega (arith, y .0)
 
         placed : take n placing ≡ entry (listed (s .graph)) (k - 1)
         placed =
-            ap (take n) (here f .found e .1)
-            ∙ reading-first (s .graph) shaped (k - 1) below n nodes (drop (s .graph .nodes) blank) .0
+            ap (take n) (here .found e .1)
+            ∙ take-at (entry (listed (s .graph)) (k - 1)) (drop (s .graph .nodes) blank) n (reading-long lists (k - 1) below ∙ sym nodes)
 
         pub drawable : Drawable n parents placing
         drawable =
@@ -194,7 +201,7 @@ module _ {n : ℕ} {parents heads-low heads-high : List ℕ} (s : SheetTables n 
             → ((d : Drawable n parents placing) → text.Drawn (drawing (d .graph) (take n placing)) m old new) → DrawingCall (s .graph) k old (Length m) new
         unfolding drawable
         drawn-so old new m h most d =
-            let y = here f .found e in
+            let y = here .found e in
             let t : text.Drawn (drawing (s .graph) (entry (listed (s .graph)) (k - 1))) m old new =
             subst (λ (p : List ℕ). text.Drawn (drawing (s .graph) p) m old new) placed (d drawable) in
             subst (λ (q : List ℕ). DrawingCall (s .graph) k old (Length m) q) (sym (t .bytes))
@@ -229,7 +236,7 @@ module _ {n : ℕ} {parents heads-low heads-high : List ℕ} (s : SheetTables n 
       reading-1 = first .listing .only-readings 0 (first .some) .solved
 
       long : length (entry (first .readings) 0) ≡ n
-      long = placing-length (s .graph) (entry (first .readings) 0) (reading-1 .is-placing) ∙ sym nodes
+      long = reading-long (first .listing) 0 (first .some) ∙ sym nodes
 
       opening : take n new ≡ entry (first .readings) 0
       opening = ap (take n) (first .wrote) ∙ take-at (entry (first .readings) 0) (drop (s .graph .nodes) old) n long

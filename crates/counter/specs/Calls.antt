@@ -70,6 +70,10 @@ pub data StretchCall (g : Graph) (place : ℕ) (old : List ℕ) : Placed → ℕ
       → (last ≡ reach ps) ⊎ (length old < length (placings ps place last) + g .nodes)
       → StretchCall g place old Done last (placings ps place last ++ drop (length (placings ps place last)) old)
 
+-- what a call hands out into the first `room` of the lent bytes: one reading where these are n, and where they are all, as many as fit
+abbrev pub HandedCall : Graph → ℕ → ℕ → List ℕ → Placed → ℕ → List ℕ → Type 0
+HandedCall g room place old r place′ new = (room ≡ g .nodes → ReadingCall g place old r place′ new) × (room ≡ length old → StretchCall g place old r place′ new)
+
 -- the configuration of a well-formed sheet
 pub data ConfigurationCall (g : Graph) (old : List ℕ) : Placed → List ℕ → Type 0 where
   small : length old < 2 * g .nodes → ConfigurationCall g old (Refused SmallBuffer) old

@@ -12,12 +12,12 @@ use sheet_encode::Tidied;
 use sheet_fragments::Table;
 use sheet_fragments::records::prepare;
 use sheet_fragments::records::record;
+use tables::Wanted;
 use tables::checked_placing;
 use tables::configuration_of;
 use tables::count_of;
 use tables::drawing_of;
-use tables::reading_of;
-use tables::stretch_of;
+use tables::readings_of;
 ghost use mathlib.Core.Path.{_≡_};
 ghost use Rattle.format.specs.Sheet.{outcome};
 ghost use Rattle.sheet_encode.specs.Tidy.{Tidies};
@@ -108,7 +108,11 @@ impl Place {
                 answer: Placed::Refused(why),
                 place: self,
             },
-            Verdict::Accepted => reading_of(&parent, &low, &high, graph.n, self, out),
+            Verdict::Accepted => {
+                let passed = self.number;
+                let room = graph.n;
+                readings_of(&parent, &low, &high, graph.n, Wanted { passed, room }, out)
+            }
         }
     }
 
@@ -130,7 +134,11 @@ impl Place {
                 answer: Placed::Refused(why),
                 place,
             },
-            Verdict::Accepted => stretch_of(&parent, &low, &high, graph.n, place, out),
+            Verdict::Accepted => {
+                let passed = self.number;
+                let room = out.len();
+                readings_of(&parent, &low, &high, graph.n, Wanted { passed, room }, out)
+            }
         }
     }
 }

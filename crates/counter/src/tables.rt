@@ -15,8 +15,10 @@ use solve_numbered::find;
 use solve_rule1::configure;
 use solve_start::begin;
 use solve_stretch::stretch;
+ghost use Prim.Native.Nat.{_*_, _≤_};
+ghost use lib.ListN.{length};
 ghost use Rattle.base_tables.specs.Tables.{SheetTables};
-ghost use Rattle.counter.specs.Calls.{Counts, ReadingCall, StretchCall, ConfigurationCall, DrawingCall};
+ghost use Rattle.counter.specs.Calls.{Counts, HandedCall, ConfigurationCall, DrawingCall};
 ghost use Rattle.counter.specs.Checks.{PlacingCall};
 
 // The bytes that a drawing is lent at least.
@@ -47,20 +49,29 @@ pub(crate) fn count_of(parent: &[u8], heads_low: &[u64], heads_high: &[u64], n: 
     Counted::Readings(count(parent, &owner, n, begun.leaves, begun.roots, &low, &high))
 }
 
-pub(crate) fn reading_of(
+// What a call hands out: the readings after the first `passed`, as many as fit into the first `room` bytes lent.
+pub struct Wanted {
+    pub passed: usize,
+    pub room: usize,
+}
+
+pub(crate) fn readings_of(
     parent: &[u8],
     heads_low: &[u64],
     heads_high: &[u64],
     n: usize,
-    place: Place,
+    wanted: Wanted,
     out: &mut [u8],
 ) -> Next
     requires { ⌜ SheetTables n (now parent) (now «heads_low») (now «heads_high») ⌝ }
+    requires { ⌜ (2 * n ≤ length (now out) → (n ≤ wanted .room) × (wanted .room ≤ length (now out))) ⌝ }
     ensures { λ r. ⌜
         ((s : SheetTables n (now (parent .entry)) (now («heads_low» .entry)) (now («heads_high» .entry))) →
-        ReadingCall (s .graph) (place .number) (now (out .entry)) (r .answer) (r .place .number) (now (out .exit)))
+        HandedCall (s .graph) (wanted .room) (wanted .passed) (now (out .entry)) (r .answer) (r .place .number) (now (out .exit)))
         ⌝ }
 {
+    let passed = wanted.passed;
+    let place = Place { number: passed };
     if out.len() < 2 * n {
         return Next {
             answer: Placed::Refused(Refusal::SmallBuffer),
@@ -86,72 +97,7 @@ pub(crate) fn reading_of(
             place,
         };
     }
-    let passed = place.number;
-    if passed < LAST {
-        let wanted = passed + 1;
-        if find(
-            parent,
-            &owner,
-            n,
-            begun.leaves,
-            begun.roots,
-            &low,
-            &high,
-            wanted,
-            out,
-        ) {
-            return Next {
-                answer: Placed::Done,
-                place: Place { number: wanted },
-            };
-        }
-    }
-    Next {
-        answer: Placed::Refused(Refusal::NoSuchReading),
-        place,
-    }
-}
-
-pub(crate) fn stretch_of(
-    parent: &[u8],
-    heads_low: &[u64],
-    heads_high: &[u64],
-    n: usize,
-    place: Place,
-    out: &mut [u8],
-) -> Next
-    requires { ⌜ SheetTables n (now parent) (now «heads_low») (now «heads_high») ⌝ }
-    ensures { λ r. ⌜
-        ((s : SheetTables n (now (parent .entry)) (now («heads_low» .entry)) (now («heads_high» .entry))) →
-        StretchCall (s .graph) (place .number) (now (out .entry)) (r .answer) (r .place .number) (now (out .exit)))
-        ⌝ }
-{
-    if out.len() < 2 * n {
-        return Next {
-            answer: Placed::Refused(Refusal::SmallBuffer),
-            place,
-        };
-    }
-    let mut owner = [0u8; 128];
-    let mut low = [0u64; 128];
-    let mut high = [0u64; 128];
-    let begun = begin(
-        parent,
-        heads_low,
-        heads_high,
-        n,
-        &mut owner,
-        &mut low,
-        &mut high,
-    );
-    if !begun.solvable {
-        let c = witness(parent, heads_low, heads_high, n, out);
-        return Next {
-            answer: Placed::NoReading(c),
-            place,
-        };
-    }
-    let passed = place.number;
+    let room = wanted.room;
     let last = stretch(
         parent,
         &owner,
@@ -161,7 +107,7 @@ pub(crate) fn stretch_of(
         &low,
         &high,
         passed,
-        out,
+        &mut out[..room],
     );
     if last == passed {
         return Next {
@@ -188,7 +134,8 @@ pub(crate) fn configuration_of(
         ConfigurationCall (s .graph) (now (out .entry)) r (now (out .exit)))
         ⌝ }
 {
-    let next = reading_of(parent, heads_low, heads_high, n, Place { number: 0 }, out);
+    let wanted = Wanted { passed: 0, room: n };
+    let next = readings_of(parent, heads_low, heads_high, n, wanted, out);
     let answer = next.answer;
     if let Placed::Done = answer {
         configure(parent, n, out);

@@ -44,6 +44,9 @@ placings-more ps passed last h below =
     ∙ joined-more (drop passed ps) (last - passed) (omega (arith, length-drop passed ps))
     ∙ ap (λ (p : List ℕ). placings ps passed last ++ p) (getD-drop passed ps (last - passed) [] ∙ ap (entry ps) back)
 
+pub placings-one : (ps : List (List ℕ)) (passed : ℕ) → passed < length ps → placings ps passed (passed + 1) ≡ entry ps passed
+placings-one ps passed h = placings-more ps passed passed (omega arith) h ∙ ap (λ (l : List ℕ). l ++ entry ps passed) (placings-none ps passed)
+
 -- readings have n bytes each, so that one more takes as many more
 module _ (ps : List (List ℕ)) (n : ℕ) (long : (i : ℕ) → i < length ps → length (entry ps i) ≡ n) (passed k : ℕ) (h : passed ≤ k) where
   grown : (j : ℕ) → k + 1 + j ≤ length ps → length (placings ps passed k) + n ≤ length (placings ps passed (k + 1 + j))

@@ -1,35 +1,16 @@
 -- Several readings at once: their call, too, has one answer but for the choice of the cycle. It hands out as many as it can: one
 -- more would not fit, or there is none.
-use Prim.Native.Nat.{ℕ, _+_, _≤_, _<_}
+use Prim.Native.Nat.{ℕ, _≤_}
 use mathlib.Core.Path.{_≡_, refl}
 use mathlib.Core.List.{List}
-use mathlib.Core.Bool.{true, false}
-use mathlib.Core.Logic.{_⊎_, inl, inr}
 use native.Mathlib.Omega.{arith}
-use lib.Dec.{ltb}
-use lib.ListN.{length}
-use borrow.Author.Tests.{ltb-true, ltb-false}
-use Rattle.base_finite.proofs.Laws.{by-bool}
 use Rattle.graph.specs.Graph.{Graph}
-use Rattle.graph.specs.Order.{Listing, entry}
 use Rattle.theory_forest.specs.Shape.{Shaped}
-use Rattle.theory_forest.proofs.Forests.{placing-length}
 use Rattle.theory_list.proofs.Readings.{listing-unique}
-use Rattle.solve_stretch.specs.Stretch.{placings}
-use Rattle.solve_stretch.proofs.Placings.{placings-grow}
-use Rattle.counter.specs.Calls.{reach, StretchCall}
+use Rattle.counter.specs.Calls.{StretchCall}
 use Rattle.counter.specs.declared.Placed.{Placed}
+use Rattle.counter.proofs.Answering.{no-later}
 use Rattle.theory_demand.proofs.Determined.{Same, same-bytes, has-none, reaches}
-
--- a call that ends at k had room for no more, so that none of the same list ends later
-module _ {g : Graph} {ps : List (List ℕ)} (l : Listing g ps) {place : ℕ} (old : List ℕ) where
-  no-later : (k last : ℕ) → place < k → last ≤ reach ps → length (placings ps place last) ≤ length old → (k ≡ reach ps) ⊎ (length old < length (placings ps place k) + g .nodes) → last ≤ k
-  no-later k last from within fits (inl e) = omega (arith, within, e)
-  no-later k last from within fits (inr full) =
-      by-bool (ltb k last)
-      (λ (t : ltb k last ≡ true).
-      absurd (omega (arith, full, fits, placings-grow ps (g .nodes) (λ i h. placing-length g (entry ps i) (l .only-readings i h .solved .is-placing)) place k (omega (arith, from)) last (ltb-true k last t) (omega (arith, within)))))
-      (λ (t : ltb k last ≡ false). ltb-false k last t)
 
 module _ {g : Graph} (s : Shaped g) where
   pub stretch-determined : {m m₁ m₂ : ℕ} {old new new′ : List ℕ} {r r′ : Placed} → StretchCall g m old r m₁ new → StretchCall g m old r′ m₂ new′
