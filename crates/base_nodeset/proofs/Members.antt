@@ -8,7 +8,7 @@ use lib.Dec.{eqb, ltb}
 use borrow.Author.Tests.{eq-eqb, ne-eqb, eqb-true, eqb-false, lt-ltb, ltb-true, ltb-false, not-true}
 use Rattle.base_finite.specs.Below.{any, count, least}
 use Rattle.base_finite.proofs.Laws.{and-both, by-bool, not-not, any-false, count-one-more, least-below, least-holds}
-use Rattle.base_nodeset.specs.Set.{mem, OfByte, Removed, Lowest, Pops}
+use Rattle.base_nodeset.specs.Set.{mem, OfByte, Removed, Lowest, Pops, Difference}
 use Rattle.base_nodeset.specs.declared.NodeSet.{NodeSet}
 use Rattle.base_nodeset.specs.declared.Popped.the-variants.{None, Member}
 use Rattle.base_nodeset.proofs.Laws.{member-beyond}
@@ -56,6 +56,10 @@ removed-cases s k t r j m f g =
     by-bool (eqb j k)
     (λ e. f (eqb-true j k e))
     (λ e. let n : j ≡ k → ⊥ = eqb-false j k e in g n (sym (removed-other s k t r j n) ∙ m))
+
+-- what is out stays out where more is taken away
+pub difference-out : (s t r : NodeSet) → Difference s t r → (k : ℕ) → mem s k ≡ false → mem r k ≡ false
+difference-out s t r is k e = is k ∙ rw e
 
 pub one-less : (s : NodeSet) (k : ℕ) (t : NodeSet) → k < 128 → mem s k ≡ true → Removed s k t → count 128 (mem s) ≡ count 128 (mem t) + 1
 one-less s k t h m r = count-one-more 128 (mem t) (mem s) k h (removed-gone s k t r) m (removed-other s k t r)

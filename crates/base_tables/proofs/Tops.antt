@@ -11,6 +11,7 @@ use Rattle.base_finite.proofs.Laws.{by-bool, and-both, and-false}
 use Rattle.base_finite.proofs.Counting.{count-grows}
 use Rattle.base_nodeset.specs.Set.{mem, Empty, Difference, Lowest}
 use Rattle.base_nodeset.specs.declared.NodeSet.{NodeSet}
+use Rattle.base_nodeset.proofs.Members.{difference-out}
 use Rattle.graph.specs.Graph.{Graph, Descent}
 use Rattle.theory_forest.proofs.Closure.{path-trans}
 use Rattle.base_tables.specs.Rows.{inRow, IsRow, Rows, Closed, Tops}
@@ -58,9 +59,6 @@ module _
   row-out : (v : ℕ) → rows x v ≡ true → mem top′ v ≡ false
   row-out v h = is-top v ∙ rw (is-row v, h) (and-false (mem top v))
 
-  stays-out : (v : ℕ) → mem top v ≡ false → mem top′ v ≡ false
-  stays-out v h = is-top v ∙ rw h
-
   out-now : (v : ℕ) → mem set v ≡ true → mem top′ v ≡ false → (y : ℕ) × (mem set y ≡ true) × (rows y v ≡ true)
   out-now v h f =
       by-bool (mem top v)
@@ -82,7 +80,7 @@ module _
       let i : y ≡ x = eqb-true y x q in
       row-out v (rw i at e))
       (λ (q : eqb y x ≡ false). absurd (true≢false (sym (is-left y ∙ rw (first .others y, q, l, u)) ∙ f)))))
-      (λ (l : mem left y ≡ false). stays-out v (so .passed closed y h l v e))
+      (λ (l : mem left y ≡ false). difference-out top under top′ is-top v (so .passed closed y h l v e))
 
   pub tops-more : TopsSo rows set top′ left′
   tops-more =

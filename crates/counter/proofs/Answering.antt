@@ -36,7 +36,7 @@ use Rattle.solve_stretch.specs.Stretch.{placings}
 use Rattle.solve_stretch.proofs.Placings.{placings-one, placings-grow}
 use Rattle.solve_start.specs.Started.{WalkableOf}
 use Rattle.solve_start.specs.declared.Start.{Start}
-use Rattle.counter.specs.Calls.{reach, Counts, CycleWritten, ReadingCall, StretchCall, HandedCall, ConfigurationCall, DrawingCall}
+use Rattle.counter.specs.Calls.{reach, Counts, CycleWritten, ReadingCall, HandedCall, ConfigurationCall, DrawingCall}
 use Rattle.counter.specs.Calls as calls
 use Rattle.counter.specs.Checks.{PlacingCall}
 use Rattle.counter.specs.Checks as checks

@@ -9,7 +9,7 @@ use Rattle.base_finite.specs.Below.{count}
 use Rattle.base_finite.proofs.Laws.{by-bool, and-both, or-cases, or-none, or-left, count-one-more}
 use Rattle.base_nodeset.specs.Set.{mem, Empty, Union, Intersection, Difference, Lowest}
 use Rattle.base_nodeset.specs.declared.NodeSet.{NodeSet}
-use Rattle.base_nodeset.proofs.Members.{removed-member, removed-cases, removed-gone, removed-other}
+use Rattle.base_nodeset.proofs.Members.{removed-member, removed-cases, removed-gone, removed-other, difference-out}
 use Rattle.solve_test.specs.Tables.{Symmetric}
 use Rattle.solve_test.specs.Free.{Spread, start, step, Spreads}
 
@@ -71,9 +71,6 @@ module _
       let b = and-both (mem row k) (mem unseen k) (sym (is-new k) ∙ h) in
       (sym (is-row k) ∙ b .0, b .1)
 
-  seen-still : (k : ℕ) → mem unseen k ≡ false → mem unseen′ k ≡ false
-  seen-still k e = is-unseen′ k ∙ rw e
-
   new-seen : (k : ℕ) → mem new k ≡ true → mem unseen′ k ≡ false
   new-seen k e = is-unseen′ k ∙ rw (new-parts k e .1, e)
 
@@ -103,16 +100,16 @@ module _
       let near-f : near f h ≡ true = rw i at n in
       by-bool (mem unseen h)
       (λ t. new-seen h (is-new h ∙ rw (is-row h, near-f, t)))
-      (λ t. seen-still h t))
-      (λ a (o : mem pending x ≡ false). seen-still h (g .gone-on x h w seen o n v))
+      (λ t. difference-out unseen new unseen′ is-unseen′ h t))
+      (λ a (o : mem pending x ≡ false). difference-out unseen new unseen′ is-unseen′ h (g .gone-on x h w seen o n v))
 
   pub growing-on : Growing near within from (mem pending′) (mem unseen′)
   growing-on =
       record {
-        parted = λ k h. ⊎-elim (λ (t : mem pending k ≡ true). seen-still k (g .parted k t)) (new-seen k) (pending-cases k h);
+        parted = λ k h. ⊎-elim (λ (t : mem pending k ≡ true). difference-out unseen new unseen′ is-unseen′ k (g .parted k t)) (new-seen k) (pending-cases k h);
         pending-within = λ k h. ⊎-elim (g .pending-within k) (λ (t : mem new k ≡ true). g .unseen-within k (new-parts k t .1)) (pending-cases k h);
         unseen-within = λ k h. g .unseen-within k (and-both (mem unseen k) (not (mem new k)) (sym (is-unseen′ k) ∙ h) .0);
-        starts-seen = λ k h. seen-still k (g .starts-seen k h);
+        starts-seen = λ k h. difference-out unseen new unseen′ is-unseen′ k (g .starts-seen k h);
         reached = λ k w e.
             ⊎-elim
             (λ (t : mem unseen k ≡ false). g .reached k w t)
