@@ -44,7 +44,7 @@ extern "C" {
 /* Limits. */
 #define BIXTOGAN_NODES_MAX 128           /* nodes of a sheet */
 #define BIXTOGAN_DOMINANCE_EDGES_MAX 255 /* dominance edges of a sheet */
-#define BIXTOGAN_SHEET_MAX 1149          /* bytes of a well-formed sheet */
+#define BIXTOGAN_SHEET_MAX 1149          /* no well-formed sheet has more bytes */
 #define BIXTOGAN_READINGS_MAX 65535      /* the highest exact count, and the highest number */
 
 /* Bytes that are enough for any sheet. */
