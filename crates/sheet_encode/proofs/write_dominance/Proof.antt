@@ -28,12 +28,15 @@ cast-write-row c = search needs
 
 write-row-requires : tie.Need-write-row-requires Inv-loop μ-loop
 write-row-requires c κs =
-    let l = c .before .before .before .loop in
-    let low = now (c .before .before .before .before .before .before .before .args .low) in
-    let high = now (c .before .before .before .before .before .before .before .args .high) in
-    let whole = dominance-part-longer (l .l + 1) (c .before .before .before .before .before .before .before .args .n) low high (omega arith) in
-    let part = dominance-part-more (l .l) low high (c .before .set-at .result) (c .before .set-at .ensures) in
-    let fits = room (now (c .before .before .before .before .before .before .before .args .out)) (c .before .before .before .before .before .before .before .args .start) (dominancePart (l .l) low high) (l .out) (l .at) (rowBytes (l .l) (c .before .set-at .result)) (dominancePart (c .before .before .before .before .before .before .before .args .n) low high) (l .inv .2) (rw part at whole) (c .before .before .before .before .before .before .before .pre .3) in
+    let s = c .before in
+    let o = s .before .before in
+    let a = o .before .before .before .before in
+    let l = o .loop in
+    let low = now (a .args .low) in
+    let high = now (a .args .high) in
+    let whole = dominance-part-longer (l .l + 1) (a .args .n) low high (omega arith) in
+    let part = dominance-part-more (l .l) low high (s .set-at .result) (s .set-at .ensures) in
+    let fits = room (now (a .args .out)) (a .args .start) (dominancePart (l .l) low high) (l .out) (l .at) (rowBytes (l .l) (s .set-at .result)) (dominancePart (a .args .n) low high) (l .inv .2) (rw part at whole) (a .pre .3) in
     omega (arith, fits)
 
 add-l : tie.Need-add-l Inv-loop μ-loop
@@ -44,11 +47,15 @@ loop-less c = search needs
 
 loop-again : tie.Need-loop-again Inv-loop μ-loop
 loop-again c =
-    let l = c .before .before .before .before .before .before .loop in
-    let k = c .before .before .write-row in (
+    let w = c .before .before in
+    let s = w .before .before in
+    let o = s .before .before in
+    let a = o .before .before .before .before in
+    let l = o .loop in
+    let k = w .write-row in (
       omega arith,
       k .kept .1 .1 .0 ∙ l .inv .1,
-      rw (dominance-part-more (l .l) (now (c .before .before .before .before .before .before .before .before .before .before .args .low)) (now (c .before .before .before .before .before .before .before .before .before .before .args .high)) _ (c .before .before .before .before .set-at .ensures)) (written-more _ _ _ (l .out) (l .at) _ _ _ (l .inv .2) (k .ensures)),
+      rw (dominance-part-more (l .l) (now (a .args .low)) (now (a .args .high)) _ (s .set-at .ensures)) (written-more _ _ _ (l .out) (l .at) _ _ _ (l .inv .2) (k .ensures)),
     )
 
 same-length : tie.Need-same-length Inv-loop μ-loop

@@ -39,11 +39,20 @@ cast-put c =
 
 put-requires : tie.Need-put-requires Inv-loop μ-loop
 put-requires c κs =
-    let long : length (c .before .before .before .before .before .loop .out) ≡ length (c .before .before .before .before .before .before .before .args .out .now) = c .before .before .before .before .before .loop .inv .0 in
-    omega (arith, row-room _ _ _ _ _ _ _ (c .before .before .before .before .before .loop .inv .1) _ _ (c .before .before .before .before .pop .ensures .lowest _ _ (c .before .before .r .given .1)) (c .before .before .before .before .before .before .before .pre))
+    let r = c .before .before in
+    let p = r .before .before in
+    let l = p .before in
+    let s = l .before .before in
+    let long : length (l .loop .out) ≡ length (s .args .out .now) = l .loop .inv .0 in
+    omega (arith, row-room _ _ _ _ _ _ _ (l .loop .inv .1) _ _ (p .pop .ensures .lowest _ _ (r .r .given .1)) (s .pre))
 
 add-at : tie.Need-add-at Inv-loop μ-loop
-add-at c = omega (arith, row-room _ _ _ _ _ _ _ (c .before .before .before .before .before .before .before .before .loop .inv .1) _ _ (c .before .before .before .before .before .before .before .pop .ensures .lowest _ _ (c .before .before .before .before .before .r .given .1)) (c .before .before .before .before .before .before .before .before .before .before .pre), c .before .before .before .before .before .before .before .before .before .before .good)
+add-at c =
+    let r = c .before .before .before .before .before in
+    let p = r .before .before in
+    let l = p .before in
+    let s = l .before .before in
+    omega (arith, row-room _ _ _ _ _ _ _ (l .loop .inv .1) _ _ (p .pop .ensures .lowest _ _ (r .r .given .1)) (s .pre), s .good)
 
 loop-less : tie.Need-loop-less Inv-loop μ-loop
 loop-less c =
@@ -51,7 +60,12 @@ loop-less c =
     omega arith
 
 loop-again : tie.Need-loop-again Inv-loop μ-loop
-loop-again c = (c .before .before .put .kept .0 ∙ c .before .before .before .before .before .before .before .before .loop .inv .0, row-more _ _ _ _ _ _ _ (c .before .before .before .before .before .before .before .before .loop .inv .1) _ _ (c .before .before .before .before .before .before .before .pop .ensures .lowest _ _ (c .before .before .before .before .before .r .given .1)) _ (c .before .before .put .ensures))
+loop-again c =
+    let p = c .before .before in
+    let r = p .before .before .before in
+    let o = r .before .before in
+    let l = o .before in
+    (p .put .kept .0 ∙ l .loop .inv .0, row-more _ _ _ _ _ _ _ (l .loop .inv .1) _ _ (o .pop .ensures .lowest _ _ (r .r .given .1)) _ (p .put .ensures))
 
 pub write-row-spec : {M : Type 1} → statement M
 write-row-spec =

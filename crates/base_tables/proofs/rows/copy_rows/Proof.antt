@@ -19,7 +19,11 @@ same-length-2 : tie.Need-same-length-2
 same-length-2 c = search needs
 
 returns : tie.Need-returns
-returns c = (copied 128 _ (now (c .before .before .before .before .before .before .before .before .before .before .before .before .args .low)) _ (omega arith) (omega arith) (c .before .before .before .before .before .before .copy-first .ensures), copied 128 _ (now (c .before .before .before .before .before .before .before .before .before .before .before .before .args .high)) _ (omega arith) (omega arith) (c .before .before .copy-first2 .ensures))
+returns c =
+    let o = c .before .before in
+    let p = o .before .before .before .before in
+    let s = p .before .before .before .before .before .before in
+    (copied 128 _ (now (s .args .low)) _ (omega arith) (omega arith) (p .copy-first .ensures), copied 128 _ (now (s .args .high)) _ (omega arith) (omega arith) (o .copy-first2 .ensures))
 
 pub copy-rows-spec : {M : Type 1} → statement M
 copy-rows-spec =

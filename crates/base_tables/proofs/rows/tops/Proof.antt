@@ -40,10 +40,24 @@ difference-requires-2 : tie.Need-difference-requires-2 Inv-loop μ-loop
 difference-requires-2 c κs = search needs
 
 loop-less : tie.Need-loop-less Inv-loop μ-loop
-loop-less c = tops-less _ (c .before .before .before .before .before .before .before .before .before .before .args .set) (c .before .before .before .before .before .before .before .loop .top) _ _ (c .before .before .set-at .result) (c .before .difference .result) _ (c .difference2 .result) (c .before .before .before .before .before .before .before .loop .inv) (c .before .before .before .before .before .before .pop .ensures .lowest _ _ (c .before .before .before .before .x .given .1)) (c .before .before .set-at .ensures) (c .before .difference .ensures) (c .difference2 .ensures)
+loop-less c =
+    let d = c .before in
+    let s = d .before in
+    let x = s .before .before in
+    let p = x .before .before in
+    let l = p .before in
+    let a = l .before .before .before in
+    tops-less _ (a .args .set) (l .loop .top) _ _ (s .set-at .result) (d .difference .result) _ (c .difference2 .result) (l .loop .inv) (p .pop .ensures .lowest _ _ (x .x .given .1)) (s .set-at .ensures) (d .difference .ensures) (c .difference2 .ensures)
 
 loop-again : tie.Need-loop-again Inv-loop μ-loop
-loop-again c = tops-more _ (c .before .before .before .before .before .before .before .before .before .before .args .set) (c .before .before .before .before .before .before .before .loop .top) _ _ (c .before .before .set-at .result) (c .before .difference .result) _ (c .difference2 .result) (c .before .before .before .before .before .before .before .loop .inv) (c .before .before .before .before .before .before .pop .ensures .lowest _ _ (c .before .before .before .before .x .given .1)) (c .before .before .set-at .ensures) (c .before .difference .ensures) (c .difference2 .ensures)
+loop-again c =
+    let d = c .before in
+    let s = d .before in
+    let x = s .before .before in
+    let p = x .before .before in
+    let l = p .before in
+    let a = l .before .before .before in
+    tops-more _ (a .args .set) (l .loop .top) _ _ (s .set-at .result) (d .difference .result) _ (c .difference2 .result) (l .loop .inv) (p .pop .ensures .lowest _ _ (x .x .given .1)) (s .set-at .ensures) (d .difference .ensures) (c .difference2 .ensures)
 
 pub tops-spec : {M : Type 1} → statement M
 tops-spec =

@@ -30,10 +30,19 @@ enum-told : tie.Need-enum-told Inv-loop μ-loop
 enum-told c = search needs
 
 returns : tie.Need-returns Inv-loop μ-loop
-returns c = round-end _ _ _ (c .before .before .before .before .before .before .before .before .before .before .before .args .rem) (c .before .before .before .before .tops .result) (c .before .before .before .loop .kept) (c .before .before .before .loop .left) (c .before .before .before .before .tops .ensures) (c .before .before .before .loop .inv) (c .before .before .pop .ensures .empty (c .enum-told .given .1))
+returns c =
+    let p = c .before .before in
+    let l = p .before in
+    let t = l .before in
+    let s = t .before .before .before .before .before .before .before in
+    round-end _ _ _ (s .args .rem) (t .tops .result) (l .loop .kept) (l .loop .left) (t .tops .ensures) (l .loop .inv) (p .pop .ensures .empty (c .enum-told .given .1))
 
 take-requires : tie.Need-take-requires Inv-loop μ-loop
-take-requires c κs = ((c .before .before .before .before .before .before .before .before .before .before .before .before .pre .0 .0, c .before .before .before .before .before .before .before .before .before .before .before .before .pre .0 .1, c .before .before .before .before .before .before .before .before .before .before .before .before .pre .0 .2, c .before .before .before .pop .ensures .lowest _ _ (c .before .f .given .1) .below), c .before .before .before .before .before .before .before .before .before .before .before .before .pre .1)
+take-requires c κs =
+    let f = c .before in
+    let p = f .before .before in
+    let s = p .before .before .before .before .before .before .before .before .before in
+    ((s .pre .0 .0, s .pre .0 .1, s .pre .0 .2, p .pop .ensures .lowest _ _ (f .f .given .1) .below), s .pre .1)
 
 loop-less : tie.Need-loop-less Inv-loop μ-loop
 loop-less c =
@@ -41,7 +50,13 @@ loop-less c =
     omega arith
 
 loop-again : tie.Need-loop-again Inv-loop μ-loop
-loop-again c = round-more _ _ _ (c .before .before .before .before .before .before .before .before .before .before .before .before .before .args .rem) (c .before .before .before .before .before .before .tops .result) (c .before .before .before .before .before .loop .kept) _ (c .take .result) _ _ (c .before .before .before .before .before .before .tops .ensures) (c .before .before .before .before .pop .ensures .lowest _ _ (c .before .before .f .given .1)) (c .before .before .before .before .before .loop .inv) (c .take .ensures)
+loop-again c =
+    let f = c .before .before in
+    let p = f .before .before in
+    let l = p .before in
+    let t = l .before in
+    let s = t .before .before .before .before .before .before .before in
+    round-more _ _ _ (s .args .rem) (t .tops .result) (l .loop .kept) _ (c .take .result) _ _ (t .tops .ensures) (p .pop .ensures .lowest _ _ (f .f .given .1)) (l .loop .inv) (c .take .ensures)
 
 pub round-spec : {M : Type 1} → statement M
 round-spec =

@@ -33,7 +33,11 @@ same-length-2 : tie.Need-same-length-2 Inv-loop μ-loop
 same-length-2 c = omega (arith, c .before .before .before .before .before .before .before .before .pre .1 .long .1, c .before .before .before .loop .inv .long .1)
 
 returns : tie.Need-returns Inv-loop μ-loop
-returns c = near-end _ (c .before .before .before .before .before .before .before .before .args .roots) (c .before .before .before .loop .left) (c .before .before .before .loop .low) (c .before .before .before .loop .high) (c .before .before .before .loop .inv) (c .before .before .pop .ensures .empty (c .enum-told .given .1))
+returns c =
+    let p = c .before .before in
+    let l = p .before in
+    let s = l .before .before .before .before .before in
+    near-end _ (s .args .roots) (l .loop .left) (l .loop .low) (l .loop .high) (l .loop .inv) (p .pop .ensures .empty (c .enum-told .given .1))
 
 set-at-requires : tie.Need-set-at-requires Inv-loop μ-loop
 set-at-requires c κs =
@@ -44,18 +48,36 @@ intersection-requires : tie.Need-intersection-requires Inv-loop μ-loop
 intersection-requires c κs = search needs
 
 put-requires : tie.Need-put-requires Inv-loop μ-loop
-put-requires c κs = (c .before .before .before .before .before .before .before .before .loop .inv .long, c .before .before .before .before .before .before .before .pop .ensures .lowest _ _ (c .before .before .before .before .before .f .given .1) .below)
+put-requires c κs =
+    let f = c .before .before .before .before .before in
+    let p = f .before .before in
+    let l = p .before in
+    (l .loop .inv .long, p .pop .ensures .lowest _ _ (f .f .given .1) .below)
 
 put-all-requires : tie.Need-put-all-requires Inv-loop μ-loop
-put-all-requires c κs = (c .before .before .before .before .before .before .put .ensures .long, c .before .before .before .before .before .before .before .before .before .before .before .before .before .before .pop .ensures .lowest _ _ (c .before .before .before .before .before .before .before .before .before .before .before .before .f .given .1) .below)
+put-all-requires c κs =
+    let p = c .before .before .before .before .before .before in
+    let f = p .before .before .before .before .before .before in
+    let o = f .before .before in
+    (p .put .ensures .long, o .pop .ensures .lowest _ _ (f .f .given .1) .below)
 
 loop-less : tie.Need-loop-less Inv-loop μ-loop
 loop-less c =
-    let first = c .before .before .before .before .before .before .before .before .before .before .before .before .before .before .before .before .before .before .before .pop .ensures .lowest _ _ (c .before .before .before .before .before .before .before .before .before .before .before .before .before .before .before .before .before .f .given .1) in
+    let f = c .before .before .before .before .before .before .before .before .before .before .before .before .before .before .before .before .before in
+    let p = f .before .before in
+    let first = p .pop .ensures .lowest _ _ (f .f .given .1) in
     omega arith
 
 loop-again : tie.Need-loop-again Inv-loop μ-loop
-loop-again c = near-more _ _ _ _ (c .before .before .before .before .before .before .before .before .before .before .before .before .before .before .before .set-at .result) (c .before .before .before .before .before .before .before .before .before .before .before .before .before .before .intersection .result) (c .before .before .before .before .before .before .before .before .before .before .before .before .before .before .before .before .before .before .before .before .loop .low) (c .before .before .before .before .before .before .before .before .before .before .before .before .before .before .before .before .before .before .before .before .loop .high) _ _ _ _ _ (c .before .before .before .before .before .before .before .before .before .before .before .before .before .before .before .before .before .before .before .before .loop .inv) (c .before .before .before .before .before .before .before .before .before .before .before .before .before .before .before .before .before .before .before .pop .ensures .lowest _ _ (c .before .before .before .before .before .before .before .before .before .before .before .before .before .before .before .before .before .f .given .1)) (c .before .before .before .before .before .before .before .before .before .before .before .before .before .before .before .set-at .ensures) (c .before .before .before .before .before .before .before .before .before .before .before .before .before .before .intersection .ensures) (c .before .before .before .before .before .before .before .before .before .before .before .put .ensures) (c .before .before .before .before .put-all .ensures)
+loop-again c =
+    let p = c .before .before .before .before in
+    let u = p .before .before .before .before .before .before .before in
+    let i = u .before .before .before in
+    let s = i .before in
+    let f = s .before .before in
+    let o = f .before .before in
+    let l = o .before in
+    near-more _ _ _ _ (s .set-at .result) (i .intersection .result) (l .loop .low) (l .loop .high) _ _ _ _ _ (l .loop .inv) (o .pop .ensures .lowest _ _ (f .f .given .1)) (s .set-at .ensures) (i .intersection .ensures) (u .put .ensures) (p .put-all .ensures)
 
 pub near-rows-spec : {M : Type 1} → statement M
 near-rows-spec =

@@ -43,11 +43,19 @@ put-requires c κs = (c .before .before .before .before .before .before .loop .i
 
 loop-less : tie.Need-loop-less Inv-loop μ-loop
 loop-less c =
-    let first = c .before .before .before .before .before .before .before .before .before .before .pop .ensures .lowest _ _ (c .before .before .before .before .before .before .before .before .h .given .1) in
+    let h = c .before .before .before .before .before .before .before .before in
+    let p = h .before .before in
+    let first = p .pop .ensures .lowest _ _ (h .h .given .1) in
     omega arith
 
 loop-again : tie.Need-loop-again Inv-loop μ-loop
-loop-again c = put-more _ _ (c .before .before .before .before .before .before .before .before .before .before .before .before .only .result) _ (c .before .before .before .before .before .before .before .before .before .before .before .before .only .ensures) (c .before .before .before .before .before .before .before .before .before .before .before .loop .inv) (c .before .before .before .before .before .before .before .before .before .before .pop .ensures .lowest _ _ (c .before .before .before .before .before .before .before .before .h .given .1)) (c .before .before .before .before .put .ensures)
+loop-again c =
+    let p = c .before .before .before .before in
+    let h = p .before .before .before .before in
+    let o = h .before .before in
+    let l = o .before in
+    let n = l .before in
+    put-more _ _ (n .only .result) _ (n .only .ensures) (l .loop .inv) (o .pop .ensures .lowest _ _ (h .h .given .1)) (p .put .ensures)
 
 pub put-all-spec : {M : Type 1} → statement M
 put-all-spec =
