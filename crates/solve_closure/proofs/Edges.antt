@@ -2,7 +2,7 @@
 use Prim.Native.Nat.{ℕ, _+_, _≤_, _<_}
 use mathlib.Core.Path.{_≡_, refl, sym, _∙_}
 use mathlib.Core.List.{List}
-use mathlib.Core.Bool.{Bool, true, false, not, _&&_, _||_, or-assoc}
+use mathlib.Core.Bool.{Bool, true, false, not, _&&_, _||_, or-assoc, false≢true}
 use mathlib.Core.Logic.{⊎-elim, _↔_}
 use native.Mathlib.Omega.{arith}
 use lib.Dec.{eqb, ltb}
@@ -209,14 +209,11 @@ link-more w links u v =
     rw (e, q, le-ltb w w (omega arith)))
     (λ (e : eqb v w ≡ false). rw (e, or-false (ltb v w)) (or-false (linkIn w links u v))))
 
-pub differ : false ≡ true → ⊥
-differ e = let z : _≡_ {A = ℕ} 0 1 = cc in omega arith
-
 pub link-parts : (n : ℕ) (links : List ℕ) (u v : ℕ) → linkIn n links u v ≡ true → (v < n) × (getD links v 0 ≡ none → ⊥) × (u ≡ getD links v 0)
 link-parts n links u v t =
     let a = and-both (ltb v n) (not (eqb (getD links v 0) none) && eqb u (getD links v 0)) t in
     let b = and-both (not (eqb (getD links v 0) none)) (eqb u (getD links v 0)) (a .1) in
-    (ltb-true v n (a .0), λ e. differ (rw (eq-eqb (getD links v 0) none e) at (b .0)), eqb-true u (getD links v 0) (b .1))
+    (ltb-true v n (a .0), λ e. false≢true (rw (eq-eqb (getD links v 0) none e) at (b .0)), eqb-true u (getD links v 0) (b .1))
 
 pub link-intro : (n : ℕ) (links : List ℕ) (u v : ℕ) → v < n → (getD links v 0 ≡ none → ⊥) → u ≡ getD links v 0 → linkIn n links u v ≡ true
 link-intro n links u v h other is = rw (lt-ltb v n h, ne-eqb (getD links v 0) none other, eq-eqb u (getD links v 0) is)

@@ -3,7 +3,7 @@
 use Prim.Native.Nat.{ℕ, _≤_, _<_}
 use mathlib.Core.Path.{_≡_, sym, _∙_}
 use mathlib.Core.List.{List}
-use mathlib.Core.Bool.{true, false}
+use mathlib.Core.Bool.{true, false, false≢true}
 use mathlib.Core.Logic.{⊎-elim, _↔_}
 use native.Mathlib.Omega.{arith}
 use lib.Dec.{ltb}
@@ -25,7 +25,7 @@ use Rattle.base_tables.specs.Tables.{Tables}
 use Rattle.base_tables.proofs.TreeLaws.{tree-of, tables-parents, parent-here, has-parent}
 use Rattle.solve_closure.specs.Closing.{Links, linkIn, headIn, Closed, Adds}
 use Rattle.solve_closure.proofs.Laws.{rows-map, path-iff}
-use Rattle.solve_closure.proofs.Edges.{differ, link-parts, link-intro, link-from}
+use Rattle.solve_closure.proofs.Edges.{link-parts, link-intro, link-from}
 
 -- what the callers' tables have
 
@@ -38,15 +38,15 @@ parents-links p =
 -- no edge, no path
 
 no-path : {u v : ℕ} → Path (λ (x y : ℕ). false ≡ true) u v → ⊥
-no-path (one e) = differ e
-no-path (more p e) = differ e
+no-path (one e) = false≢true e
+no-path (more p e) = false≢true e
 
 pub cleared-closed : {low high : List ℕ} → length low ≡ 128 → length high ≡ 128 → ((u v : ℕ) → inRow low high u v ≡ false) → Closed (λ u v. false) low high
 cleared-closed l h blank =
     record {
       low-long = l;
       high-long = h;
-      row-is = λ u v. (λ t. absurd (differ (sym (blank u v) ∙ t)), λ p. absurd (no-path p));
+      row-is = λ u v. (λ t. absurd (false≢true (sym (blank u v) ∙ t)), λ p. absurd (no-path p));
     }
 
 module _ {n : ℕ} {parents lows highs : List ℕ} {edges : ℕ} (g : Graph) (t : Tables g n parents lows highs edges) where
@@ -87,7 +87,7 @@ module _ {n : ℕ} {parents lows highs : List ℕ} {edges : ℕ} (g : Graph) (t 
   graph-built start links heads =
       rows-map
       (path-iff (λ u v. or-holds (linkIn n parents u v) (headIn n lows highs u v) (tree-link u v) (dominance-head u v)))
-      (heads .closed (linkIn n parents) (link-from n parents (parents-links (tables-parents t)) n (omega arith)) (links .closed (λ u v. false) (λ u v e. absurd (differ e)) start))
+      (heads .closed (linkIn n parents) (link-from n parents (parents-links (tables-parents t)) n (omega arith)) (links .closed (λ u v. false) (λ u v e. absurd (false≢true e)) start))
 
   module _ (bytes : List ℕ) (is-placing : placing g (take n bytes) ≡ true) where
     byte : (v : ℕ) → v < n → at (take n bytes) v ≡ getD bytes v 0
@@ -119,4 +119,4 @@ module _ {n : ℕ} {parents lows highs : List ℕ} {edges : ℕ} (g : Graph) (t 
     placing-built start trees hangings =
         rows-map
         (path-iff (λ u v. or-holds (linkIn n parents u v) (linkIn n bytes u v) (tree-link u v) (hanging-link u v)))
-        (hangings .closed (linkIn n parents) (link-from n parents (parents-links (tables-parents t)) n (omega arith)) (trees .closed (λ u v. false) (λ u v e. absurd (differ e)) start))
+        (hangings .closed (linkIn n parents) (link-from n parents (parents-links (tables-parents t)) n (omega arith)) (trees .closed (λ u v. false) (λ u v e. absurd (false≢true e)) start))
