@@ -9,6 +9,7 @@ ghost use mathlib.Core.Bool.{_&&_};
 ghost use lib.Dec.{eqb};
 ghost use lib.ListN.{length, take};
 ghost use Rattle.base_finite.specs.Stores.{Written};
+ghost use Rattle.graph.specs.Graph.{none};
 ghost use Rattle.format.specs.Drawing.{drawing};
 ghost use Rattle.format.specs.Text.{decimal};
 ghost use Rattle.base_tables.specs.Trees.{Parents, InnerSet};
@@ -105,7 +106,7 @@ fn leaf(
 }
 
 fn on_top(parent: u8, leaf: u8) -> bool
-    ensures { λ r. ⌜ r ≡ (eqb parent 255 && eqb leaf 255) ⌝ }
+    ensures { λ r. ⌜ r ≡ (eqb parent none && eqb leaf none) ⌝ }
 {
     parent == NONE && leaf == NONE
 }
