@@ -16,18 +16,19 @@ use Rattle.sheet_fragments.specs.Table.{Tabled}
 use Rattle.sheet_fragments.specs.declared.Table.{Table}
 use Rattle.sheet_fragments.specs.declared.Table.the-variants.{Filled, Refused as TableRefused}
 use Rattle.check_placing.specs.declared.Answers.{Answers}
-use Rattle.counter.specs.Calls.{CountOf, ReadingOf, StretchOf, ConfigurationOf, DrawingOf, countNumber, placedNumber, drawnNumber}
-use Rattle.counter.specs.Checks.{CycleOf, PlacingOf, cycleNumber, placingNumber, tidiedNumber, tableNumber}
-use Rattle.counter.specs.declared.Counted.{Counted}
-use Rattle.counter.specs.declared.Counted.the-variants.{Readings, Refused as CountRefused}
-use Rattle.counter.specs.declared.Placed.{Placed}
-use Rattle.counter.specs.declared.Placed.the-variants.{Done, NoReading, Refused}
-use Rattle.counter.specs.declared.Drawn.{Drawn}
-use Rattle.counter.specs.declared.Drawn.the-variants.{Length, Refused as DrawnRefused}
+use Rattle.solve_answer.specs.Calls.{countNumber, placedNumber, drawnNumber, placingNumber}
+use Rattle.counter.specs.Calls.{CountOf, ReadingOf, StretchOf, ConfigurationOf, DrawingOf}
+use Rattle.counter.specs.Checks.{CycleOf, PlacingOf, cycleNumber, tidiedNumber, tableNumber}
+use Rattle.solve_answer.specs.declared.Counted.{Counted}
+use Rattle.solve_answer.specs.declared.Counted.the-variants.{Readings, Refused as CountRefused}
+use Rattle.solve_answer.specs.declared.Placed.{Placed}
+use Rattle.solve_answer.specs.declared.Placed.the-variants.{Done, NoReading, Refused}
+use Rattle.solve_answer.specs.declared.Drawn.{Drawn}
+use Rattle.solve_answer.specs.declared.Drawn.the-variants.{Length, Refused as DrawnRefused}
 use Rattle.counter.specs.declared.CycleChecked.{CycleChecked}
 use Rattle.counter.specs.declared.CycleChecked.the-variants.{Answer, Refused as CycleRefused}
-use Rattle.counter.specs.declared.PlacingChecked.{PlacingChecked}
-use Rattle.counter.specs.declared.PlacingChecked.the-variants.{Answers as Answered-so, Refused as PlacingRefused}
+use Rattle.solve_answer.specs.declared.PlacingChecked.{PlacingChecked}
+use Rattle.solve_answer.specs.declared.PlacingChecked.the-variants.{Answers as Answered-so, Refused as PlacingRefused}
 
 -- a count as a number, where one more than 65,535 stands for "more"
 abbrev pub countValue : Count → ℕ

@@ -13,8 +13,8 @@ use sheet_encode::Tidied;
 use sheet_fragments::Table;
 ghost use mathlib.Core.Path.{_≡_};
 ghost use mathlib.Core.Bool.{cond};
-ghost use Rattle.counter.specs.Calls.{countNumber, placedNumber, drawnNumber};
-ghost use Rattle.counter.specs.Checks.{cycleNumber, placingNumber, tidiedNumber, tableNumber};
+ghost use Rattle.solve_answer.specs.Calls.{countNumber, placedNumber, drawnNumber, placingNumber};
+ghost use Rattle.counter.specs.Checks.{cycleNumber, tidiedNumber, tableNumber};
 ghost use Rattle.capi.specs.Interface.{countValue, bits, readingsOf, pairsOf, drawnOf, tidiedOf, recordsOf, yesOf, answersOf};
 
 // What stands for more than 65,535 readings.

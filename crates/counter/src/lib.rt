@@ -1,10 +1,6 @@
 // The calls that are open to callers. Nothing is asked of what is lent: each call tests its own input.
-mod tables;
-
 use check_cycle::check;
-use check_placing::Answers;
 use format::Refusal;
-use graph::Count;
 use graph::Fragment;
 use sheet_decode::judge::Verdict;
 use sheet_decode::read::read;
@@ -12,12 +8,17 @@ use sheet_encode::Tidied;
 use sheet_fragments::Table;
 use sheet_fragments::records::prepare;
 use sheet_fragments::records::record;
-use tables::Wanted;
-use tables::checked_placing;
-use tables::configuration_of;
-use tables::count_of;
-use tables::drawing_of;
-use tables::readings_of;
+pub use solve_answer::Counted;
+pub use solve_answer::Drawn;
+use solve_answer::Handed;
+pub use solve_answer::Placed;
+pub use solve_answer::PlacingChecked;
+use solve_answer::Wanted;
+use solve_answer::checked_placing;
+use solve_answer::configuration_of;
+use solve_answer::count_of;
+use solve_answer::drawing_of;
+use solve_answer::readings_of;
 ghost use mathlib.Core.Path.{_≡_};
 ghost use Rattle.format.specs.Sheet.{outcome};
 ghost use Rattle.sheet_encode.specs.Tidy.{Tidies};
@@ -26,22 +27,9 @@ ghost use Rattle.sheet_fragments.specs.Records.{Recorded};
 ghost use Rattle.counter.specs.Calls.{CountOf, ReadingOf, StretchOf, ConfigurationOf, DrawingOf};
 ghost use Rattle.counter.specs.Checks.{CycleOf, PlacingOf};
 
-// The answer to the count.
-pub enum Counted {
-    Readings(Count),
-    Refused(Refusal),
-}
-
 // The listing's place: the number of the last reading handed out, 0 at the start.
 pub struct Place {
     pub number: usize,
-}
-
-// The answer to a reading or a configuration. Where no reading exists the cycle of so many pairs fills the buffer.
-pub enum Placed {
-    Done,
-    NoReading(usize),
-    Refused(Refusal),
 }
 
 // A reading call's answer, and the place moved on.
@@ -50,21 +38,9 @@ pub struct Next {
     pub place: Place,
 }
 
-// The answer to the drawing: its length.
-pub enum Drawn {
-    Length(usize),
-    Refused(Refusal),
-}
-
 // The answer to the check of a cycle.
 pub enum CycleChecked {
     Answer(bool),
-    Refused(Refusal),
-}
-
-// The answer to the check of a placing: solved form, configuration, reading.
-pub enum PlacingChecked {
-    Answers(Answers),
     Refused(Refusal),
 }
 
@@ -82,6 +58,17 @@ pub fn count(sheet: &[u8]) -> Counted
         Verdict::Refused(why) => Counted::Refused(why),
         Verdict::Accepted => count_of(&parent, &low, &high, graph.n),
     }
+}
+
+// The place of the last reading handed out.
+fn moved(handed: Handed) -> Next
+    ensures { λ r. ⌜ (r .answer ≡ handed .answer) × (r .place .number ≡ handed .last) ⌝ }
+{
+    let answer = handed.answer;
+    let place = Place {
+        number: handed.last,
+    };
+    Next { answer, place }
 }
 
 impl Place {
@@ -111,7 +98,8 @@ impl Place {
             Verdict::Accepted => {
                 let passed = self.number;
                 let room = graph.n;
-                readings_of(&parent, &low, &high, graph.n, Wanted { passed, room }, out)
+                let wanted = Wanted { passed, room };
+                moved(readings_of(&parent, &low, &high, graph.n, wanted, out))
             }
         }
     }
@@ -137,7 +125,8 @@ impl Place {
             Verdict::Accepted => {
                 let passed = self.number;
                 let room = out.len();
-                readings_of(&parent, &low, &high, graph.n, Wanted { passed, room }, out)
+                let wanted = Wanted { passed, room };
+                moved(readings_of(&parent, &low, &high, graph.n, wanted, out))
             }
         }
     }

@@ -36,16 +36,14 @@ use Rattle.solve_stretch.specs.Stretch.{placings}
 use Rattle.solve_stretch.proofs.Placings.{placings-one, placings-grow}
 use Rattle.solve_start.specs.Started.{WalkableOf}
 use Rattle.solve_start.specs.declared.Start.{Start}
-use Rattle.counter.specs.Calls.{reach, Counts, CycleWritten, ReadingCall, HandedCall, ConfigurationCall, DrawingCall}
-use Rattle.counter.specs.Calls as calls
-use Rattle.counter.specs.Checks.{PlacingCall}
-use Rattle.counter.specs.Checks as checks
-use Rattle.counter.specs.declared.Counted.the-variants.{Readings, Refused as CountRefused}
-use Rattle.counter.specs.declared.Placed.{Placed}
-use Rattle.counter.specs.declared.Placed.the-variants.{Done, NoReading, Refused}
-use Rattle.counter.specs.declared.Drawn.the-variants.{Length, Refused as DrawnRefused}
-use Rattle.counter.proofs.Placed.{the-type}
-use Rattle.counter.specs.declared.PlacingChecked.the-variants.{Answers as Answered-so, Refused as PlacingRefused}
+use Rattle.solve_answer.specs.Calls.{reach, Counts, CycleWritten, ReadingCall, HandedCall, ConfigurationCall, DrawingCall, PlacingCall}
+use Rattle.solve_answer.specs.Calls as calls
+use Rattle.solve_answer.specs.declared.Counted.the-variants.{Readings, Refused as CountRefused}
+use Rattle.solve_answer.specs.declared.Placed.{Placed}
+use Rattle.solve_answer.specs.declared.Placed.the-variants.{Done, NoReading, Refused}
+use Rattle.solve_answer.specs.declared.Drawn.the-variants.{Length, Refused as DrawnRefused}
+use Rattle.solve_answer.proofs.Placed.{the-type}
+use Rattle.solve_answer.specs.declared.PlacingChecked.the-variants.{Answers as Answered-so, Refused as PlacingRefused}
 
 -- a graph with a solved form has a reading
 pub some-listed : (g : Graph) → Shaped g → Solvable g → 0 < length (listed g)
@@ -263,10 +261,10 @@ module _ {n : ℕ} {parents heads-low heads-high : List ℕ} (s : SheetTables n 
   -- the check of a placing
 
   pub small-placing : (bytes : List ℕ) → length bytes < n → PlacingCall (s .graph) bytes (PlacingRefused SmallBuffer)
-  small-placing bytes h = checks.PlacingCall.small (omega (arith, nodes, h))
+  small-placing bytes h = calls.PlacingCall.small (omega (arith, nodes, h))
 
   pub placing-answered : (bytes : List ℕ) (a : Answers) → n ≤ length bytes
       → ((g : Graph) (edges : ℕ) → Tables g n parents heads-low heads-high edges → Answered g (take n bytes) a) → PlacingCall (s .graph) bytes (Answered-so a)
   placing-answered bytes a h f =
-      checks.PlacingCall.answered a (omega (arith, nodes, h))
+      calls.PlacingCall.answered a (omega (arith, nodes, h))
       (subst (λ (k : ℕ). Answered (s .graph) (take k bytes) a) nodes (f (s .graph) (s .edges) (s .tables)))

@@ -1,6 +1,6 @@
--- What each call answers and leaves in the lent bytes, by document 01's order of refusals: 1 to 8, 10, 9, 11. Each is a
--- relation whose cases exclude each other; but for the choice of the cycle that refusal 9 writes, which document 01 leaves
--- open, they fix answer, place and bytes.
+-- What each call on a well-formed sheet answers and leaves in the lent bytes, by document 01's order of refusals: 10, 9, 11.
+-- Each is a relation whose cases exclude each other; but for the choice of the cycle that refusal 9 writes, which document 01
+-- leaves open, they fix answer, place and bytes.
 use Prim.Native.Nat.{ℕ, _+_, _-_, _*_, _≤_, _<_, min}
 use mathlib.Core.Path.{_≡_}
 use mathlib.Core.List.{List, _++_}
@@ -8,7 +8,6 @@ use mathlib.Core.Bool.{true}
 use mathlib.Core.Logic.{_⊎_}
 use lib.ListN.{length, take, drop}
 use Rattle.graph.specs.Graph.{Graph}
-use Rattle.format.specs.Sheet.{Outcome, refused, accepted}
 use Rattle.graph.specs.Placing.{Solvable, Unsolvable}
 use Rattle.graph.specs.Order.{Listing, entry, limit, countAnswer}
 use Rattle.graph.specs.Rule1.{HandedOut}
@@ -17,12 +16,16 @@ use Rattle.format.specs.Drawing.{drawing}
 use Rattle.format.specs.Refusal.{number}
 use Rattle.format.specs.declared.Refusal.the-variants.{NoReading as No-reading, SmallBuffer, NoSuchReading}
 use Rattle.solve_stretch.specs.Stretch.{placings}
-use Rattle.counter.specs.declared.Counted.{Counted}
-use Rattle.counter.specs.declared.Counted.the-variants.{Readings, Refused as CountRefused}
-use Rattle.counter.specs.declared.Placed.{Placed}
-use Rattle.counter.specs.declared.Placed.the-variants.{Done, NoReading, Refused}
-use Rattle.counter.specs.declared.Drawn.{Drawn}
-use Rattle.counter.specs.declared.Drawn.the-variants.{Length, Refused as DrawnRefused}
+use Rattle.check_placing.specs.Answered.{Answered}
+use Rattle.check_placing.specs.declared.Answers.{Answers}
+use Rattle.solve_answer.specs.declared.Counted.{Counted}
+use Rattle.solve_answer.specs.declared.Counted.the-variants.{Readings, Refused as CountRefused}
+use Rattle.solve_answer.specs.declared.Placed.{Placed}
+use Rattle.solve_answer.specs.declared.Placed.the-variants.{Done, NoReading, Refused}
+use Rattle.solve_answer.specs.declared.Drawn.{Drawn}
+use Rattle.solve_answer.specs.declared.Drawn.the-variants.{Length, Refused as DrawnRefused}
+use Rattle.solve_answer.specs.declared.PlacingChecked.{PlacingChecked}
+use Rattle.solve_answer.specs.declared.PlacingChecked.the-variants.{Answers as Answered-so, Refused as PlacingRefused}
 
 -- how many readings can be handed out: "beyond the count or beyond 65,535"
 abbrev pub reach : List (List ℕ) → ℕ
@@ -41,6 +44,10 @@ placedNumber (Refused why) = number why
 abbrev pub drawnNumber : Drawn → ℕ
 drawnNumber (Length k) = 0
 drawnNumber (DrawnRefused why) = number why
+
+abbrev pub placingNumber : PlacingChecked → ℕ
+placingNumber (Answered-so a) = 0
+placingNumber (PlacingRefused why) = number why
 
 -- the count of a well-formed sheet
 pub data Counts (g : Graph) : Counted → Type 0 where
@@ -88,23 +95,7 @@ pub data DrawingCall (g : Graph) (k : ℕ) (old : List ℕ) : Drawn → List ℕ
   drawn : (ps : List (List ℕ)) → 1024 ≤ length old → Listing g ps → 0 < k → k ≤ reach ps
       → DrawingCall g k old (Length (length (drawing g (entry ps (k - 1))))) (drawing g (entry ps (k - 1)) ++ drop (length (drawing g (entry ps (k - 1)))) old)
 
--- the same of any bytes: 1 to 8 come first, and "After any refusal a place stays where it was."
-abbrev pub CountOf : Outcome → Counted → Type 0
-CountOf (refused why) r = r ≡ CountRefused why
-CountOf (accepted g) r = Counts g r
-
-abbrev pub ReadingOf : Outcome → ℕ → List ℕ → Placed → ℕ → List ℕ → Type 0
-ReadingOf (refused why) place old r place′ new = (r ≡ Refused why) × (place′ ≡ place) × (new ≡ old)
-ReadingOf (accepted g) place old r place′ new = ReadingCall g place old r place′ new
-
-abbrev pub StretchOf : Outcome → ℕ → List ℕ → Placed → ℕ → List ℕ → Type 0
-StretchOf (refused why) place old r place′ new = (r ≡ Refused why) × (place′ ≡ place) × (new ≡ old)
-StretchOf (accepted g) place old r place′ new = StretchCall g place old r place′ new
-
-abbrev pub ConfigurationOf : Outcome → List ℕ → Placed → List ℕ → Type 0
-ConfigurationOf (refused why) old r new = (r ≡ Refused why) × (new ≡ old)
-ConfigurationOf (accepted g) old r new = ConfigurationCall g old r new
-
-abbrev pub DrawingOf : Outcome → ℕ → List ℕ → Drawn → List ℕ → Type 0
-DrawingOf (refused why) k old r new = (r ≡ DrawnRefused why) × (new ≡ old)
-DrawingOf (accepted g) k old r new = DrawingCall g k old r new
+-- "The check of a placing reads the first n bytes and gives three yes-or-no answers"
+pub data PlacingCall (g : Graph) (placing : List ℕ) : PlacingChecked → Type 0 where
+  small : length placing < g .nodes → PlacingCall g placing (PlacingRefused SmallBuffer)
+  answered : (a : Answers) → g .nodes ≤ length placing → Answered g (take (g .nodes) placing) a → PlacingCall g placing (Answered-so a)

@@ -1,12 +1,8 @@
 // The calls on the tables of a well-formed sheet: of each node its parent, of each leaf the roots that its dominance edges
 // go to. The refusals come in document 01's order: 10, 9, 11.
-use crate::Counted;
-use crate::Drawn;
-use crate::Next;
-use crate::Place;
-use crate::Placed;
-use crate::PlacingChecked;
+use check_placing::Answers;
 use format::Refusal;
+use graph::Count;
 use graph::LAST;
 use show_drawing::draw;
 use solve_cycle::witness;
@@ -18,13 +14,37 @@ use solve_stretch::stretch;
 ghost use Prim.Native.Nat.{_*_, _≤_};
 ghost use lib.ListN.{length};
 ghost use Rattle.base_tables.specs.Tables.{SheetTables};
-ghost use Rattle.counter.specs.Calls.{Counts, HandedCall, ConfigurationCall, DrawingCall};
-ghost use Rattle.counter.specs.Checks.{PlacingCall};
+ghost use Rattle.solve_answer.specs.Calls.{Counts, HandedCall, ConfigurationCall, DrawingCall, PlacingCall};
 
 // The bytes that a drawing is lent at least.
 const DRAWING: usize = 1024;
 
-pub(crate) fn count_of(parent: &[u8], heads_low: &[u64], heads_high: &[u64], n: usize) -> Counted
+// The answer to the count.
+pub enum Counted {
+    Readings(Count),
+    Refused(Refusal),
+}
+
+// The answer to a reading or a configuration. Where no reading exists the cycle of so many pairs fills the buffer.
+pub enum Placed {
+    Done,
+    NoReading(usize),
+    Refused(Refusal),
+}
+
+// The answer to the drawing: its length.
+pub enum Drawn {
+    Length(usize),
+    Refused(Refusal),
+}
+
+// The answer to the check of a placing: solved form, configuration, reading.
+pub enum PlacingChecked {
+    Answers(Answers),
+    Refused(Refusal),
+}
+
+pub fn count_of(parent: &[u8], heads_low: &[u64], heads_high: &[u64], n: usize) -> Counted
     requires { ⌜ SheetTables n (now parent) (now «heads_low») (now «heads_high») ⌝ }
     ensures { λ r. ⌜
         ((s : SheetTables n (now (parent .entry)) (now («heads_low» .entry)) (now («heads_high» .entry))) →
@@ -55,27 +75,32 @@ pub struct Wanted {
     pub room: usize,
 }
 
-pub(crate) fn readings_of(
+// The answer, and the number of the last reading handed out so far.
+pub struct Handed {
+    pub answer: Placed,
+    pub last: usize,
+}
+
+pub fn readings_of(
     parent: &[u8],
     heads_low: &[u64],
     heads_high: &[u64],
     n: usize,
     wanted: Wanted,
     out: &mut [u8],
-) -> Next
+) -> Handed
     requires { ⌜ SheetTables n (now parent) (now «heads_low») (now «heads_high») ⌝ }
     requires { ⌜ (2 * n ≤ length (now out) → (n ≤ wanted .room) × (wanted .room ≤ length (now out))) ⌝ }
     ensures { λ r. ⌜
         ((s : SheetTables n (now (parent .entry)) (now («heads_low» .entry)) (now («heads_high» .entry))) →
-        HandedCall (s .graph) (wanted .room) (wanted .passed) (now (out .entry)) (r .answer) (r .place .number) (now (out .exit)))
+        HandedCall (s .graph) (wanted .room) (wanted .passed) (now (out .entry)) (r .answer) (r .last) (now (out .exit)))
         ⌝ }
 {
     let passed = wanted.passed;
-    let place = Place { number: passed };
     if out.len() < 2 * n {
-        return Next {
+        return Handed {
             answer: Placed::Refused(Refusal::SmallBuffer),
-            place,
+            last: passed,
         };
     }
     let mut owner = [0u8; 128];
@@ -92,9 +117,9 @@ pub(crate) fn readings_of(
     );
     if !begun.solvable {
         let pairs = witness(parent, heads_low, heads_high, n, out);
-        return Next {
+        return Handed {
             answer: Placed::NoReading(pairs),
-            place,
+            last: passed,
         };
     }
     let room = wanted.room;
@@ -110,18 +135,18 @@ pub(crate) fn readings_of(
         &mut out[..room],
     );
     if last == passed {
-        return Next {
+        return Handed {
             answer: Placed::Refused(Refusal::NoSuchReading),
-            place,
+            last: passed,
         };
     }
-    Next {
+    Handed {
         answer: Placed::Done,
-        place: Place { number: last },
+        last,
     }
 }
 
-pub(crate) fn configuration_of(
+pub fn configuration_of(
     parent: &[u8],
     heads_low: &[u64],
     heads_high: &[u64],
@@ -135,15 +160,15 @@ pub(crate) fn configuration_of(
         ⌝ }
 {
     let wanted = Wanted { passed: 0, room: n };
-    let next = readings_of(parent, heads_low, heads_high, n, wanted, out);
-    let answer = next.answer;
+    let handed = readings_of(parent, heads_low, heads_high, n, wanted, out);
+    let answer = handed.answer;
     if let Placed::Done = answer {
         configure(parent, n, out);
     }
     answer
 }
 
-pub(crate) fn drawing_of(
+pub fn drawing_of(
     parent: &[u8],
     heads_low: &[u64],
     heads_high: &[u64],
@@ -198,7 +223,7 @@ pub(crate) fn drawing_of(
     Drawn::Refused(Refusal::NoSuchReading)
 }
 
-pub(crate) fn checked_placing(
+pub fn checked_placing(
     parent: &[u8],
     heads_low: &[u64],
     heads_high: &[u64],

@@ -15,7 +15,8 @@ use Rattle.theory_forest.proofs.Shape.{well-formed-shaped}
 use Rattle.theory_list.specs.Readings.{listed}
 use Rattle.theory_list.proofs.Readings.{listing-exists, listing-unique, one-below}
 use Rattle.theory_refutes.proofs.Excludes.{no-both}
-use Rattle.counter.specs.Calls.{reach, CountOf, ReadingOf, ConfigurationOf, DrawingOf}
+use Rattle.solve_answer.specs.Calls.{reach}
+use Rattle.counter.specs.Calls.{CountOf, ReadingOf, ConfigurationOf, DrawingOf}
 use Rattle.theory_demand.specs.Demand.{Call, Chain, handedOut, lentEnough, least, Demand3}
 use Rattle.theory_demand.proofs.Refusing.{count-refuses, reading-refuses, configuration-refuses, drawing-refuses, reading-cycle, configuration-cycle, configuration-given}
 use Rattle.theory_demand.proofs.Handing.{chain-hands}

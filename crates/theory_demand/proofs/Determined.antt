@@ -14,12 +14,12 @@ use Rattle.theory_forest.specs.Shape.{Shaped}
 use Rattle.theory_list.proofs.Readings.{listing-unique}
 use Rattle.theory_rule1.proofs.Ending.{rule1-function}
 use Rattle.graph.specs.Placing.{Unsolvable}
-use Rattle.counter.specs.Calls.{reach, placedNumber, Counts, ReadingCall, ConfigurationCall, DrawingCall}
-use Rattle.counter.specs.declared.Counted.{Counted}
-use Rattle.counter.specs.declared.Counted.the-variants.{Readings}
-use Rattle.counter.specs.declared.Placed.{Placed}
-use Rattle.counter.specs.declared.Drawn.{Drawn}
-use Rattle.counter.specs.declared.Drawn.the-variants.{Length}
+use Rattle.solve_answer.specs.Calls.{reach, placedNumber, Counts, ReadingCall, ConfigurationCall, DrawingCall}
+use Rattle.solve_answer.specs.declared.Counted.{Counted}
+use Rattle.solve_answer.specs.declared.Counted.the-variants.{Readings}
+use Rattle.solve_answer.specs.declared.Placed.{Placed}
+use Rattle.solve_answer.specs.declared.Drawn.{Drawn}
+use Rattle.solve_answer.specs.declared.Drawn.the-variants.{Length}
 use Rattle.theory_demand.specs.Demand.{asNoReading}
 
 -- the same answer and bytes, but for the choice of the cycle

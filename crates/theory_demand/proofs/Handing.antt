@@ -17,8 +17,8 @@ use Rattle.graph.specs.Order.{Listing, entry}
 use Rattle.theory_forest.specs.Shape.{Shaped}
 use Rattle.theory_list.proofs.Readings.{listing-unique, listing-exists, unsolvable-empty}
 use Rattle.graph.specs.Placing.{Unsolvable}
-use Rattle.counter.specs.Calls.{reach, ReadingCall}
-use Rattle.counter.specs.declared.Placed.{Placed}
+use Rattle.solve_answer.specs.Calls.{reach, ReadingCall}
+use Rattle.solve_answer.specs.declared.Placed.{Placed}
 use Rattle.theory_demand.specs.Demand.{Call, Chain, unlessRefused, handedOut, lentEnough}
 use Rattle.theory_forest.proofs.Forests.{placing-length}
 

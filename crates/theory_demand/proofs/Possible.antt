@@ -28,11 +28,11 @@ use Rattle.theory_list.proofs.Readings.{listing-exists, solvable-decided}
 use Rattle.theory_rule1.proofs.Ending.{rule1-ends}
 use Rattle.theory_refutes.proofs.Cycles.{joined-below, CycleFacts, cycle-facts, hypernormal-cycle}
 use Rattle.theory_cycle.proofs.Theorem62.{unsolvable-cycle}
-use Rattle.counter.proofs.Answering.{some-listed}
-use Rattle.counter.specs.Calls.{reach, CycleWritten, Counts, ReadingCall, ConfigurationCall, DrawingCall}
-use Rattle.counter.specs.declared.Counted.{Counted}
-use Rattle.counter.specs.declared.Placed.{Placed}
-use Rattle.counter.specs.declared.Drawn.{Drawn}
+use Rattle.solve_answer.proofs.Answering.{some-listed}
+use Rattle.solve_answer.specs.Calls.{reach, CycleWritten, Counts, ReadingCall, ConfigurationCall, DrawingCall}
+use Rattle.solve_answer.specs.declared.Counted.{Counted}
+use Rattle.solve_answer.specs.declared.Placed.{Placed}
+use Rattle.solve_answer.specs.declared.Drawn.{Drawn}
 use Rattle.theory_demand.specs.Demand.{Call, Chain}
 
 -- a cycle has an even number of bytes

@@ -15,10 +15,10 @@ use Rattle.theory_forest.specs.Shape.{Shaped}
 use Rattle.theory_forest.proofs.Forests.{hanging-solved, placing-length}
 use Rattle.theory_list.proofs.Readings.{solvable-reading}
 use Rattle.theory_rule1.proofs.Ending.{rule1-configuration}
-use Rattle.counter.specs.Calls.{countNumber, placedNumber, drawnNumber, Counts, ReadingCall, ConfigurationCall, DrawingCall}
-use Rattle.counter.specs.declared.Counted.{Counted}
-use Rattle.counter.specs.declared.Placed.{Placed}
-use Rattle.counter.specs.declared.Drawn.{Drawn}
+use Rattle.solve_answer.specs.Calls.{countNumber, placedNumber, drawnNumber, Counts, ReadingCall, ConfigurationCall, DrawingCall}
+use Rattle.solve_answer.specs.declared.Counted.{Counted}
+use Rattle.solve_answer.specs.declared.Placed.{Placed}
+use Rattle.solve_answer.specs.declared.Drawn.{Drawn}
 use Rattle.theory_demand.specs.Demand.{NoHanging, asNoReading, Carries, Gives}
 
 pub no-hanging : {g : Graph} → Unsolvable g → NoHanging g

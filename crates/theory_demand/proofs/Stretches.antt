@@ -7,9 +7,9 @@ use native.Mathlib.Omega.{arith}
 use Rattle.graph.specs.Graph.{Graph}
 use Rattle.theory_forest.specs.Shape.{Shaped}
 use Rattle.theory_list.proofs.Readings.{listing-unique}
-use Rattle.counter.specs.Calls.{StretchCall}
-use Rattle.counter.specs.declared.Placed.{Placed}
-use Rattle.counter.proofs.Answering.{no-later}
+use Rattle.solve_answer.specs.Calls.{StretchCall}
+use Rattle.solve_answer.specs.declared.Placed.{Placed}
+use Rattle.solve_answer.proofs.Answering.{no-later}
 use Rattle.theory_demand.proofs.Determined.{Same, same-bytes, has-none, reaches}
 
 module _ {g : Graph} (s : Shaped g) where

@@ -13,11 +13,12 @@ use Rattle.format.specs.Sheet.{Outcome, outcome}
 use Rattle.graph.specs.Placing.{Below, Contains, SolvedForm, Configuration, Hanging}
 use Rattle.graph.specs.Order.{Listing, ExactlyOne}
 use Rattle.graph.specs.Cycle.{hypernormalCycle}
-use Rattle.counter.specs.Calls.{countNumber, placedNumber, drawnNumber, CountOf, ReadingOf, ConfigurationOf, DrawingOf}
-use Rattle.counter.specs.declared.Counted.{Counted}
-use Rattle.counter.specs.declared.Placed.{Placed}
-use Rattle.counter.specs.declared.Placed.the-variants.{Done, NoReading, Refused}
-use Rattle.counter.specs.declared.Drawn.{Drawn}
+use Rattle.solve_answer.specs.Calls.{countNumber, placedNumber, drawnNumber}
+use Rattle.counter.specs.Calls.{CountOf, ReadingOf, ConfigurationOf, DrawingOf}
+use Rattle.solve_answer.specs.declared.Counted.{Counted}
+use Rattle.solve_answer.specs.declared.Placed.{Placed}
+use Rattle.solve_answer.specs.declared.Placed.the-variants.{Done, NoReading, Refused}
+use Rattle.solve_answer.specs.declared.Drawn.{Drawn}
 
 -- "no hanging of its roots under its leaves, some left on top, is a forest in which each dominance edge runs downward"
 abbrev pub NoHanging : Graph → Type 0

@@ -1,9 +1,9 @@
 -- 10, or the three answers.
 use native.Mathlib.Omega.{arith}
-use Rattle.counter.proofs.Answering.{small-placing, placing-answered}
+use Rattle.solve_answer.proofs.Answering.{small-placing, placing-answered}
 use Rattle.solve_start.proofs.Starts.{parents-table, heads-long}
-use Rattle.counter.proofs.tables.checked_placing.Statement.{statement}
-use Rattle.counter.proofs.tables.checked_placing.Tie as tie
+use Rattle.solve_answer.proofs.checked_placing.Statement.{statement}
+use Rattle.solve_answer.proofs.checked_placing.Tie as tie
 
 returns : tie.Need-returns
 returns c =

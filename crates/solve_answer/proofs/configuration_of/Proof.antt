@@ -1,9 +1,9 @@
 -- Reading 1 and Rule 1; the refusals are those of the call for reading 1.
 use native.Mathlib.Omega.{arith}
-use Rattle.counter.proofs.Answering.{solved-first, configured-so, passed-on}
+use Rattle.solve_answer.proofs.Answering.{solved-first, configured-so, passed-on}
 use borrow.Author.Needs.{needs}
-use Rattle.counter.proofs.tables.configuration_of.Statement.{statement}
-use Rattle.counter.proofs.tables.configuration_of.Tie as tie
+use Rattle.solve_answer.proofs.configuration_of.Statement.{statement}
+use Rattle.solve_answer.proofs.configuration_of.Tie as tie
 
 readings-of-requires : tie.Need-readings-of-requires
 readings-of-requires c κs =

@@ -1,11 +1,11 @@
 -- 9, or the count.
 use mathlib.Core.Path.{refl}
 use borrow.Author.Tests.{not-true, not-false}
-use Rattle.counter.proofs.Answering.{no-count, a-count}
+use Rattle.solve_answer.proofs.Answering.{no-count, a-count}
 use Rattle.solve_start.proofs.Starts.{parents-table}
 use borrow.Author.Needs.{needs}
-use Rattle.counter.proofs.tables.count_of.Statement.{statement}
-use Rattle.counter.proofs.tables.count_of.Tie as tie
+use Rattle.solve_answer.proofs.count_of.Statement.{statement}
+use Rattle.solve_answer.proofs.count_of.Tie as tie
 
 slice-aggregate-begin : tie.Need-slice-aggregate-begin
 slice-aggregate-begin c = search needs

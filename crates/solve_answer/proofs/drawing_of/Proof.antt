@@ -3,11 +3,11 @@ use mathlib.Core.Path.{refl}
 use mathlib.Core.Logic.{inl, inr}
 use native.Mathlib.Omega.{arith}
 use borrow.Author.Tests.{not-true, not-false}
-use Rattle.counter.proofs.Answering.{small-drawing, no-drawing, no-such-drawing, none-to-draw, drawable, drawn-so}
+use Rattle.solve_answer.proofs.Answering.{small-drawing, no-drawing, no-such-drawing, none-to-draw, drawable, drawn-so}
 use Rattle.solve_start.proofs.Starts.{parents-table}
 use borrow.Author.Needs.{needs}
-use Rattle.counter.proofs.tables.drawing_of.Statement.{statement}
-use Rattle.counter.proofs.tables.drawing_of.Tie as tie
+use Rattle.solve_answer.proofs.drawing_of.Statement.{statement}
+use Rattle.solve_answer.proofs.drawing_of.Tie as tie
 
 returns : tie.Need-returns
 returns c =

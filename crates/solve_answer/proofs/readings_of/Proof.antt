@@ -5,10 +5,10 @@ use native.Mathlib.Omega.{arith}
 use lib.Seq.{length-take-le}
 use borrow.Author.Tests.{not-true, not-false}
 use Rattle.solve_start.proofs.Starts.{parents-table}
-use Rattle.counter.proofs.Answering.{unsolved-tables, small-call, no-reading, none-after, read-after}
+use Rattle.solve_answer.proofs.Answering.{unsolved-tables, small-call, no-reading, none-after, read-after}
 use borrow.Author.Needs.{needs}
-use Rattle.counter.proofs.tables.readings_of.Statement.{statement}
-use Rattle.counter.proofs.tables.readings_of.Tie as tie
+use Rattle.solve_answer.proofs.readings_of.Statement.{statement}
+use Rattle.solve_answer.proofs.readings_of.Tie as tie
 
 mul-if1 : tie.Need-mul-if1
 mul-if1 c = search needs
