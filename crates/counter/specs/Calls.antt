@@ -4,6 +4,7 @@
 use Prim.Native.Nat.{ℕ}
 use mathlib.Core.Path.{_≡_}
 use mathlib.Core.List.{List}
+use lib.ListN.{length}
 use Rattle.format.specs.Sheet.{Outcome, refused, accepted}
 use Rattle.solve_answer.specs.Calls.{Counts, ReadingCall, StretchCall, ConfigurationCall, DrawingCall}
 use Rattle.solve_answer.specs.declared.Counted.{Counted}
@@ -24,7 +25,7 @@ ReadingOf (accepted g) place old r place′ new = ReadingCall g place old r plac
 
 abbrev pub StretchOf : Outcome → ℕ → List ℕ → Placed → ℕ → List ℕ → Type 0
 StretchOf (refused why) place old r place′ new = (r ≡ Refused why) × (place′ ≡ place) × (new ≡ old)
-StretchOf (accepted g) place old r place′ new = StretchCall g place old r place′ new
+StretchOf (accepted g) place old r place′ new = StretchCall g (length old) place old r place′ new
 
 abbrev pub ConfigurationOf : Outcome → List ℕ → Placed → List ℕ → Type 0
 ConfigurationOf (refused why) old r new = (r ≡ Refused why) × (new ≡ old)

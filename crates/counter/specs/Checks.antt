@@ -1,5 +1,5 @@
--- What the two checks answer, which are lent nothing to write into; and the numbers of all answers that Calls.antt does not
--- have.
+-- What the two checks answer, which are lent nothing to write into; and the numbers of those answers that solve_answer: Calls
+-- does not have.
 use Prim.Native.Nat.{ℕ}
 use mathlib.Core.Path.{_≡_}
 use mathlib.Core.List.{List}

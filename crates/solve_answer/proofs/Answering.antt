@@ -36,7 +36,7 @@ use Rattle.solve_stretch.specs.Stretch.{placings}
 use Rattle.solve_stretch.proofs.Placings.{placings-one, placings-grow}
 use Rattle.solve_start.specs.Started.{WalkableOf}
 use Rattle.solve_start.specs.declared.Start.{Start}
-use Rattle.solve_answer.specs.Calls.{reach, Counts, CycleWritten, ReadingCall, HandedCall, ConfigurationCall, DrawingCall, PlacingCall}
+use Rattle.solve_answer.specs.Calls.{reach, Counts, ReadingCall, StretchCall, ConfigurationCall, DrawingCall, PlacingCall}
 use Rattle.solve_answer.specs.Calls as calls
 use Rattle.solve_answer.specs.declared.Counted.the-variants.{Readings, Refused as CountRefused}
 use Rattle.solve_answer.specs.declared.Placed.{Placed}
@@ -54,11 +54,24 @@ reading-long : {g : Graph} {ps : List (List ℕ)} → Listing g ps → (i : ℕ)
 reading-long {g} {ps} l i h = placing-length g (entry ps i) (l .only-readings i h .solved .is-placing)
 
 -- a call that ends at k had room for no more, so that none of the same list ends later
-pub no-later : {g : Graph} {ps : List (List ℕ)} → Listing g ps → {place : ℕ} (old : List ℕ) (k last : ℕ) → place < k → last ≤ reach ps → length (placings ps place last) ≤ length old
-    → (k ≡ reach ps) ⊎ (length old < length (placings ps place k) + g .nodes) → last ≤ k
-no-later l old k last from within fits (inl e) = omega (arith, within, e)
-no-later {g} {ps} l {place} old k last from within fits (inr full) =
+pub no-later : {g : Graph} {ps : List (List ℕ)} → Listing g ps → {place : ℕ} (room k last : ℕ) → place < k → last ≤ reach ps → length (placings ps place last) ≤ room
+    → (k ≡ reach ps) ⊎ (room < length (placings ps place k) + g .nodes) → last ≤ k
+no-later l room k last from within fits (inl e) = omega (arith, within, e)
+no-later {g} {ps} l {place} room k last from within fits (inr full) =
     by-contra last k (λ (t : k < last). omega (arith, full, fits, placings-grow ps (g .nodes) (reading-long l) place k (omega (arith, from)) last t (omega (arith, within))))
+
+-- n bytes have room for one reading
+one-reading : {g : Graph} → 0 < g .nodes → {place last : ℕ} {old new : List ℕ} {r : Placed} → StretchCall g (g .nodes) place old r last new → ReadingCall g place old r last new
+one-reading h (calls.StretchCall.small f) = calls.ReadingCall.small f
+one-reading h (calls.StretchCall.none {c} f u w) = calls.ReadingCall.none {c = c} f u w
+one-reading h (calls.StretchCall.beyond ps f l some over) = calls.ReadingCall.beyond ps f l some over
+one-reading {g} h {place} {last} {old} (calls.StretchCall.read ps f l from within fits full) =
+    let first : place < length ps = omega (arith, from, within) in
+    let alone : placings ps place (place + 1) ≡ entry ps place = placings-one ps place first in
+    let long : length (entry ps place) ≡ g .nodes = reading-long l place first in
+    let one : place + 1 ≡ last = omega (arith, from, no-later l (g .nodes) (place + 1) last (omega arith) within fits (inr (omega (arith, ap length alone, long, h)))) in
+    subst (λ (k : ℕ). ReadingCall g place old Done k (placings ps place k ++ drop (length (placings ps place k)) old)) one
+    (rw (alone, long) (calls.ReadingCall.read ps f l (omega (arith, from, within))))
 
 -- what is written into the first bytes alone is written into all
 put-first : (l : List ℕ) (room : ℕ) (old : List ℕ) → length l ≤ length (take room old) → (l ++ drop (length l) (take room old)) ++ drop room old ≡ l ++ drop (length l) old
@@ -89,17 +102,15 @@ module _ {n : ℕ} {parents heads-low heads-high : List ℕ} (s : SheetTables n 
   pub no-count : Unsolvable (s .graph) → Counts (s .graph) (CountRefused No-reading)
   no-count u = calls.Counts.none u
 
-  pub small-call : (room place : ℕ) (old : List ℕ) → length old < 2 * n → HandedCall (s .graph) room place old (Refused SmallBuffer) place old
-  small-call room place old h = (λ _. calls.ReadingCall.small (omega (arith, nodes, h)), λ _. calls.StretchCall.small (omega (arith, nodes, h)))
+  pub small-call : (room place : ℕ) (old : List ℕ) → length old < 2 * n → StretchCall (s .graph) room place old (Refused SmallBuffer) place old
+  small-call room place old h = calls.StretchCall.small (omega (arith, nodes, h))
 
   pub no-reading : (room place : ℕ) (old new : List ℕ) (c : ℕ) → 2 * n ≤ length old → Unsolvable (s .graph) → 2 * c ≤ 2 * n → length new ≡ length old
       → ((u : Unsolved n parents heads-low heads-high) → hypernormalCycle (u .graph) (take (2 * c) new) ≡ true) → drop (2 * c) new ≡ drop (2 * c) old
-      → HandedCall (s .graph) room place old (NoReading c) place new
+      → StretchCall (s .graph) room place old (NoReading c) place new
   unfolding unsolved-tables
   no-reading room place old new c h u within long spelt rest =
-      let enough : 2 * s .graph .nodes ≤ length old = omega (arith, nodes, h) in
-      let w : CycleWritten (s .graph) old c new = record { fits = omega (arith, h, within); long = long; cycle = spelt (unsolved-tables u); rest = rest } in
-      (λ _. calls.ReadingCall.none {c = c} enough u w, λ _. calls.StretchCall.none {c = c} enough u w)
+      calls.StretchCall.none {c = c} (omega (arith, nodes, h)) u (record { fits = omega (arith, h, within); long = long; cycle = spelt (unsolved-tables u); rest = rest })
 
   pub small-drawing : (k : ℕ) (old : List ℕ) → length old < 1024 → DrawingCall (s .graph) k old (DrawnRefused SmallBuffer) old
   small-drawing k old h = calls.DrawingCall.small h
@@ -133,33 +144,24 @@ module _ {n : ℕ} {parents heads-low heads-high : List ℕ} (s : SheetTables n 
       lent : length (take room old) ≡ room
       lent = length-take-le room old below
 
-      pub none-after : last ≡ place → HandedCall (s .graph) room place old (Refused NoSuchReading) place (part ++ drop room old)
+      pub none-after : last ≡ place → StretchCall (s .graph) room place old (Refused NoSuchReading) place (part ++ drop room old)
       none-after e =
           ⊎-elim
           (λ (y : (reach (listed (s .graph)) ≤ place) × (last ≡ place) × (part ≡ take room old)).
-          subst (HandedCall (s .graph) room place old (Refused NoSuchReading) place) (sym (ap (λ (l : List ℕ). l ++ drop room old) (y .2) ∙ take-append-drop room old))
-          (λ _. calls.ReadingCall.beyond (listed (s .graph)) enough lists some (y .0), λ _. calls.StretchCall.beyond (listed (s .graph)) enough lists some (y .0)))
+          subst (StretchCall (s .graph) room place old (Refused NoSuchReading) place) (sym (ap (λ (l : List ℕ). l ++ drop room old) (y .2) ∙ take-append-drop room old))
+          (calls.StretchCall.beyond (listed (s .graph)) enough lists some (y .0)))
           (λ (y : stretches.Filled (s .graph) place (take room old) last part). absurd (omega (arith, y .some, e)))
           stretched
 
-      pub read-after : (last ≡ place → ⊥) → HandedCall (s .graph) room place old Done last (part ++ drop room old)
+      pub read-after : (last ≡ place → ⊥) → StretchCall (s .graph) room place old Done last (part ++ drop room old)
       read-after e =
           ⊎-elim
           (λ (y : (reach (listed (s .graph)) ≤ place) × (last ≡ place) × (part ≡ take room old)). absurd (e (y .1)))
           (λ (y : stretches.Filled (s .graph) place (take room old) last part).
           let ps : List (List ℕ) = listed (s .graph) in
-          subst (HandedCall (s .graph) room place old Done last) (sym (ap (λ (l : List ℕ). l ++ drop room old) (y .bytes) ∙ put-first (placings ps place last) room old (y .fits))) (
-            λ is.
-                let first : place < length ps = omega (arith, y .some, y .within) in
-                let alone : placings ps place (place + 1) ≡ entry ps place = placings-one ps place first in
-                let long : length (entry ps place) ≡ s .graph .nodes = reading-long lists place first in
-                let one : place + 1 ≡ last = omega (arith, y .some, no-later lists (take room old) (place + 1) last (omega arith) (y .within) (y .fits) (inr (omega (arith, lent, ap length alone, long, s .tables .well-formed .some-nodes)))) in
-                subst (λ (k : ℕ). ReadingCall (s .graph) place old Done k (placings ps place k ++ drop (length (placings ps place k)) old)) one
-                (rw (alone, long) (calls.ReadingCall.read ps enough lists (omega (arith, y .some, y .within)))),
-            λ is.
-                calls.StretchCall.read ps enough lists (y .some) (y .within) (omega (arith, y .fits, lent))
-                (subst (λ (k : ℕ). (last ≡ reach ps) ⊎ (k < length (placings ps place last) + s .graph .nodes)) (lent ∙ is) (y .full)),
-          ))
+          subst (StretchCall (s .graph) room place old Done last) (sym (ap (λ (l : List ℕ). l ++ drop room old) (y .bytes) ∙ put-first (placings ps place last) room old (y .fits)))
+          (calls.StretchCall.read ps enough lists (y .some) (y .within) (omega (arith, y .fits, lent))
+          (subst (λ (k : ℕ). (last ≡ reach ps) ⊎ (k < length (placings ps place last) + s .graph .nodes)) lent (y .full))))
           stretched
 
     pub no-such-drawing : (k : ℕ) (old : List ℕ) → 1024 ≤ length old → (k ≡ 0) ⊎ (limit < k) → DrawingCall (s .graph) k old (DrawnRefused NoSuchReading) old
@@ -205,6 +207,10 @@ module _ {n : ℕ} {parents heads-low heads-high : List ℕ} (s : SheetTables n 
             subst (λ (q : List ℕ). DrawingCall (s .graph) k old (Length m) q) (sym (t .bytes))
             (subst (λ (j : ℕ). DrawingCall (s .graph) k old (Length j) (drawing (s .graph) (entry (listed (s .graph)) (k - 1)) ++ drop (length (drawing (s .graph) (entry (listed (s .graph)) (k - 1)))) old)) (sym (t .long))
             (calls.DrawingCall.drawn (listed (s .graph)) h lists (omega (arith, one)) (omega (arith, most, y .0))))
+
+  pub next-reading : {place last : ℕ} {old new : List ℕ} {r : Placed} → StretchCall (s .graph) n place old r last new → ReadingCall (s .graph) place old r last new
+  next-reading {place} {last} {old} {new} {r} x =
+      one-reading (omega (arith, s .tables .well-formed .some-nodes)) (subst (λ (k : ℕ). StretchCall (s .graph) k place old r last new) nodes x)
 
   -- the configuration, from the call for reading 1
 

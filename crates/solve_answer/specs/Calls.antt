@@ -68,18 +68,15 @@ pub data ReadingCall (g : Graph) (place : ℕ) (old : List ℕ) : Placed → ℕ
   beyond : (ps : List (List ℕ)) → 2 * g .nodes ≤ length old → Listing g ps → 0 < length ps → reach ps ≤ place → ReadingCall g place old (Refused NoSuchReading) place old
   read : (ps : List (List ℕ)) → 2 * g .nodes ≤ length old → Listing g ps → place < reach ps → ReadingCall g place old Done (place + 1) (entry ps place ++ drop (g .nodes) old)
 
--- the readings after a place, one after the other: as many as are left and as there is room for
-pub data StretchCall (g : Graph) (place : ℕ) (old : List ℕ) : Placed → ℕ → List ℕ → Type 0 where
-  small : length old < 2 * g .nodes → StretchCall g place old (Refused SmallBuffer) place old
-  none : {c : ℕ} {new : List ℕ} → 2 * g .nodes ≤ length old → Unsolvable g → CycleWritten g old c new → StretchCall g place old (NoReading c) place new
-  beyond : (ps : List (List ℕ)) → 2 * g .nodes ≤ length old → Listing g ps → 0 < length ps → reach ps ≤ place → StretchCall g place old (Refused NoSuchReading) place old
-  read : (ps : List (List ℕ)) {last : ℕ} → 2 * g .nodes ≤ length old → Listing g ps → place < last → last ≤ reach ps → length (placings ps place last) ≤ length old
-      → (last ≡ reach ps) ⊎ (length old < length (placings ps place last) + g .nodes)
-      → StretchCall g place old Done last (placings ps place last ++ drop (length (placings ps place last)) old)
-
--- what a call hands out into the first `room` of the lent bytes: one reading where these are n, and where they are all, as many as fit
-abbrev pub HandedCall : Graph → ℕ → ℕ → List ℕ → Placed → ℕ → List ℕ → Type 0
-HandedCall g room place old r place′ new = (room ≡ g .nodes → ReadingCall g place old r place′ new) × (room ≡ length old → StretchCall g place old r place′ new)
+-- the readings after a place, one after the other, into the first `room` of the lent bytes: as many as are left and as there is
+-- room for
+pub data StretchCall (g : Graph) (room place : ℕ) (old : List ℕ) : Placed → ℕ → List ℕ → Type 0 where
+  small : length old < 2 * g .nodes → StretchCall g room place old (Refused SmallBuffer) place old
+  none : {c : ℕ} {new : List ℕ} → 2 * g .nodes ≤ length old → Unsolvable g → CycleWritten g old c new → StretchCall g room place old (NoReading c) place new
+  beyond : (ps : List (List ℕ)) → 2 * g .nodes ≤ length old → Listing g ps → 0 < length ps → reach ps ≤ place → StretchCall g room place old (Refused NoSuchReading) place old
+  read : (ps : List (List ℕ)) {last : ℕ} → 2 * g .nodes ≤ length old → Listing g ps → place < last → last ≤ reach ps → length (placings ps place last) ≤ room
+      → (last ≡ reach ps) ⊎ (room < length (placings ps place last) + g .nodes)
+      → StretchCall g room place old Done last (placings ps place last ++ drop (length (placings ps place last)) old)
 
 -- the configuration of a well-formed sheet
 pub data ConfigurationCall (g : Graph) (old : List ℕ) : Placed → List ℕ → Type 0 where

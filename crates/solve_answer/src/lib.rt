@@ -14,7 +14,7 @@ use solve_stretch::stretch;
 ghost use Prim.Native.Nat.{_*_, _≤_};
 ghost use lib.ListN.{length};
 ghost use Rattle.base_tables.specs.Tables.{SheetTables};
-ghost use Rattle.solve_answer.specs.Calls.{Counts, HandedCall, ConfigurationCall, DrawingCall, PlacingCall};
+ghost use Rattle.solve_answer.specs.Calls.{Counts, StretchCall, ConfigurationCall, DrawingCall, PlacingCall};
 
 // The bytes that a drawing is lent at least.
 const DRAWING: usize = 1024;
@@ -93,7 +93,7 @@ pub fn readings_of(
     requires { ⌜ (2 * n ≤ length (now out) → (n ≤ wanted .room) × (wanted .room ≤ length (now out))) ⌝ }
     ensures { λ r. ⌜
         ((s : SheetTables n (now (parent .entry)) (now («heads_low» .entry)) (now («heads_high» .entry))) →
-        HandedCall (s .graph) (wanted .room) (wanted .passed) (now (out .entry)) (r .answer) (r .last) (now (out .exit)))
+        StretchCall (s .graph) (wanted .room) (wanted .passed) (now (out .entry)) (r .answer) (r .last) (now (out .exit)))
         ⌝ }
 {
     let passed = wanted.passed;

@@ -13,7 +13,7 @@ use Rattle.solve_answer.proofs.Answering.{no-later}
 use Rattle.theory_demand.proofs.Determined.{Same, same-bytes, has-none, reaches}
 
 module _ {g : Graph} (s : Shaped g) where
-  pub stretch-determined : {m m₁ m₂ : ℕ} {old new new′ : List ℕ} {r r′ : Placed} → StretchCall g m old r m₁ new → StretchCall g m old r′ m₂ new′
+  pub stretch-determined : {room m m₁ m₂ : ℕ} {old new new′ : List ℕ} {r r′ : Placed} → StretchCall g room m old r m₁ new → StretchCall g room m old r′ m₂ new′
       → (m₁ ≡ m₂) × Same r r′ new new′
   stretch-determined (StretchCall.small f) (StretchCall.small f′) = (refl, same-bytes refl)
   stretch-determined (StretchCall.small f) (StretchCall.none f′ u c) = absurd (omega arith)
@@ -30,9 +30,9 @@ module _ {g : Graph} (s : Shaped g) where
   stretch-determined (StretchCall.read ps f l a b c d) (StretchCall.small f′) = absurd (omega arith)
   stretch-determined (StretchCall.read ps f l a b c d) (StretchCall.none f′ u e) = absurd (has-none s u l (omega arith))
   stretch-determined (StretchCall.read ps f l a b c d) (StretchCall.beyond qs f′ k h b′) = absurd (omega (arith, reaches s l k))
-  stretch-determined {m} {m₁} {m₂} {old} (StretchCall.read ps f l a b c d) (StretchCall.read qs f′ k a′ b′ c′ d′) =
+  stretch-determined {room} {m} {m₁} {m₂} (StretchCall.read ps f l a b c d) (StretchCall.read qs f′ k a′ b′ c′ d′) =
       let e : ps ≡ qs = listing-unique g s l k in
-      let up : m₂ ≤ m₁ = no-later l old m₁ m₂ a (rw e b′) (rw e c′) d in
-      let down : m₁ ≤ m₂ = no-later l old m₂ m₁ a′ b c (rw e d′) in
+      let up : m₂ ≤ m₁ = no-later l room m₁ m₂ a (rw e b′) (rw e c′) d in
+      let down : m₁ ≤ m₂ = no-later l room m₂ m₁ a′ b c (rw e d′) in
       let ends : m₁ ≡ m₂ = omega arith in
       (ends, same-bytes (rw (e, ends)))

@@ -46,7 +46,7 @@ returns-2 : tie.Need-returns-2
 returns-2 c =
     let r = c .before .before .before .before .before .before .before .before .before .before .before .before .before .before .read in
     let x = sheet-of (now (c .before .before .before .before .before .before .before .before .before .before .before .before .before .before .before .before .before .args .sheet)) (r .result) (r .ensures) (c .before .before .before .before .before .before .before .before .enum-told .given .1) in
-    rw (c .moved .ensures .0, c .moved .ensures .1, x .is) (c .before .before .before .readings-of .ensures (x .tables) .1 refl)
+    rw (c .moved .ensures .0, c .moved .ensures .1, x .is) (c .before .before .before .readings-of .ensures (x .tables))
 
 pub fill-spec : {M : Type 1} → statement M
 fill-spec =

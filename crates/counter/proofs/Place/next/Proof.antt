@@ -4,6 +4,7 @@ use native.Mathlib.Omega.{arith}
 use denote.Ref.{now}
 use Rattle.sheet_decode.proofs.Answers.{answered-refused}
 use Rattle.solve_start.proofs.Accepted.{sheet-of}
+use Rattle.solve_answer.proofs.Answering.{next-reading}
 use borrow.Author.Needs.{needs}
 use Rattle.counter.proofs.Place.next.Statement.{statement}
 use Rattle.counter.proofs.Place.next.Tie as tie
@@ -46,7 +47,7 @@ returns-2 : tie.Need-returns-2
 returns-2 c =
     let r = c .before .before .before .before .before .before .before .before .before .before .before .before .before .before .read in
     let x = sheet-of (now (c .before .before .before .before .before .before .before .before .before .before .before .before .before .before .before .before .before .args .sheet)) (r .result) (r .ensures) (c .before .before .before .before .before .before .before .before .enum-told .given .1) in
-    rw (c .moved .ensures .0, c .moved .ensures .1, x .is) (c .before .before .before .readings-of .ensures (x .tables) .0 (x .tables .tables .nodes))
+    rw (c .moved .ensures .0, c .moved .ensures .1, x .is) (next-reading (x .tables) (c .before .before .before .readings-of .ensures (x .tables)))
 
 pub next-spec : {M : Type 1} → statement M
 next-spec =
