@@ -7,10 +7,13 @@ use native.Mathlib.Nat.{pow-suc, div-lt-iff-lt-mul}
 use native.Mathlib.Numerals.{add-one}
 use native.Mathlib.Omega.{arith}
 use lib.Dec.{ltb}
-use lib.ListN.{length, getD, take, length-append}
+use lib.ListN.{length, getD, set, take, length-append}
 use lib.Seq.{take-suc}
 use borrow.Author.Tests.{lt-ltb, le-ltb, ltb-true, ltb-false}
+use Rattle.base_finite.specs.Stores.{Written}
 use Rattle.base_finite.proofs.Laws.{by-bool}
+use Rattle.base_finite.proofs.Runs.{three-stored}
+use Rattle.base_finite.proofs.Stores.{written-none, written-one, written-two}
 use Rattle.format.specs.Text.{digits, decimal}
 use Rattle.base_text.specs.Lines.{hexDigit, hexBytes}
 
@@ -82,6 +85,31 @@ decimal-two k h = omega (arith, decimal-fewer k (omega arith), decimal-one (k / 
 
 pub decimal-three : (k : ℕ) → k < 1000 → length (decimal k) ≤ 3
 decimal-three k h = omega (arith, decimal-fewer k (omega arith), decimal-two (k / 10) (omega arith))
+
+-- what is stored of one, two and three digits
+
+pub one-digit : (old : List ℕ) (at k : ℕ) → k < 10 → Written old at (decimal k) (set old at (48 + k)) (at + 1)
+one-digit old at k h = rw (decimal-last k h) (written-one old at (48 + k))
+
+decimal-tens : (k : ℕ) → 10 ≤ k → k < 100 → decimal k ≡ (48 + k / 10) ∷ (48 + k % 10) ∷ []
+decimal-tens k l h = decimal-more k l (omega arith) ∙ rw (decimal-last (k / 10) (omega arith))
+
+pub two-digits : (old : List ℕ) (at k : ℕ) → 10 ≤ k → k < 100 → Written old at (decimal k) (set (set old at (48 + k / 10)) (at + 1) (48 + k % 10)) (at + 2)
+two-digits old at k l h = rw (decimal-tens k l h) (written-two old at [] old at (48 + k / 10) (48 + k % 10) (written-none old at))
+
+decimal-hundreds : (k : ℕ) → 100 ≤ k → k < 1000 → decimal k ≡ (48 + k / 100) ∷ (48 + k / 10 % 10) ∷ (48 + k % 10) ∷ []
+decimal-hundreds k l h =
+    let first : k / 10 / 10 ≡ k / 100 = omega arith in
+    decimal-more k (omega arith) (omega arith) ∙ rw (decimal-tens (k / 10) (omega arith) (omega arith), first)
+
+pub three-digits : (old : List ℕ) (at k : ℕ) → 100 ≤ k → k < 1000 → Written old at (decimal k) (set (set (set old at (48 + k / 100)) (at + 1) (48 + k / 10 % 10)) (at + 2) (48 + k % 10)) (at + 3)
+three-digits old at k l h = rw (decimal-hundreds k l h) (record { stored = three-stored old at (48 + k / 100) (48 + k / 10 % 10) (48 + k % 10); after = refl })
+
+pub tens-length : (k : ℕ) → 10 ≤ k → k < 100 → length (decimal k) ≡ 2
+tens-length k l h = rw (decimal-tens k l h)
+
+pub hundreds-length : (k : ℕ) → 100 ≤ k → k < 1000 → length (decimal k) ≡ 3
+hundreds-length k l h = rw (decimal-hundreds k l h)
 
 -- hexadecimal
 

@@ -10,6 +10,10 @@ use Rattle.base_nodeset.specs.declared.NodeSet.{NodeSet}
 use Rattle.graph.specs.Graph.{none}
 use Rattle.format.specs.Text.{decimal, line}
 
+-- " r:l", and nothing where l is no leaf
+unfoldable pub pair : ℕ → ℕ → List ℕ
+pair l r = cond (not (eqb l none)) (32 ∷ decimal r ++ 58 ∷ decimal l) []
+
 -- " r:l", where r is a root hung under the leaf l
 unfoldable pub hungAt : NodeSet → ℕ → ℕ → List ℕ
 hungAt roots l r = cond (mem roots r && not (eqb l none)) (32 ∷ decimal r ++ 58 ∷ decimal l) []

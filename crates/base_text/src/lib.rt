@@ -1,6 +1,7 @@
 // The lines of document 01's "The printed list", and bytes in hexadecimal. Each function writes from `at` on and hands
 // back the place after.
 use base_nodeset::NodeSet;
+use base_nodeset::Popped;
 use format::Refusal;
 use graph::Count;
 use graph::LAST;
@@ -11,7 +12,7 @@ ghost use mathlib.Core.List.{_++_};
 ghost use lib.ListN.{length};
 ghost use Rattle.format.specs.Text.{decimal, line, countLine, refusedLine};
 ghost use Rattle.base_finite.specs.Stores.{Written};
-ghost use Rattle.base_text.specs.Lines.{hungAt, lineIn, hexDigit, hexLine};
+ghost use Rattle.base_text.specs.Lines.{pair, hungIn, lineIn, hexDigit, hexLine};
 
 // No line of a reading is longer.
 pub const LINE: usize = 1100;
@@ -26,14 +27,33 @@ fn put(bytes: &[u8], out: &mut [u8], at: usize) -> usize
     at + bytes.len()
 }
 
-// A number, with as many digits as it needs.
-pub fn decimal(k: usize, out: &mut [u8], at: usize) -> usize
-    requires { ⌜ at + length (decimal k) ≤ length (now out) ⌝ }
+// A number of at most three digits, forward and with no call: almost all numbers of a reading's line are such.
+fn small(k: u16, out: &mut [u8], at: usize) -> usize
+    requires { ⌜ (k < 1000) × (at + length (decimal k) ≤ length (now out)) ⌝ }
     ensures { λ r. ⌜ Written (now (out .entry)) at (decimal k) (now (out .exit)) r ⌝ }
 {
     if k < 10 {
         out[at] = b'0' + k as u8;
         return at + 1;
+    }
+    if k < 100 {
+        out[at] = b'0' + (k / 10) as u8;
+        out[at + 1] = b'0' + (k % 10) as u8;
+        return at + 2;
+    }
+    out[at] = b'0' + (k / 100) as u8;
+    out[at + 1] = b'0' + (k / 10 % 10) as u8;
+    out[at + 2] = b'0' + (k % 10) as u8;
+    at + 3
+}
+
+// A number, with as many digits as it needs.
+pub fn decimal(k: usize, out: &mut [u8], at: usize) -> usize
+    requires { ⌜ at + length (decimal k) ≤ length (now out) ⌝ }
+    ensures { λ r. ⌜ Written (now (out .entry)) at (decimal k) (now (out .exit)) r ⌝ }
+{
+    if k < 1000 {
+        return small(k as u16, out, at);
     }
     let last = decimal(k / 10, out, at);
     out[last] = b'0' + (k % 10) as u8;
@@ -69,21 +89,37 @@ pub fn count_line(count: Count, out: &mut [u8], at: usize) -> usize
     }
 }
 
-// The node r and its leaf, where r is a root hung under one.
-fn hung(roots: NodeSet, leaf: u8, r: usize, out: &mut [u8], at: usize) -> usize
-    requires { ⌜ (r < 128) × (at + length (hungAt roots leaf r) ≤ length (now out)) ⌝ }
-    ensures { λ e. ⌜ Written (now (out .entry)) at (hungAt roots leaf r) (now (out .exit)) e ⌝ }
+// The root r and its leaf, where it is hung under one.
+fn hung(leaf: u8, r: usize, out: &mut [u8], at: usize) -> usize
+    requires { ⌜ (r < 128) × (at + length (pair leaf r) ≤ length (now out)) ⌝ }
+    ensures { λ e. ⌜ Written (now (out .entry)) at (pair leaf r) (now (out .exit)) e ⌝ }
 {
     if leaf == NONE {
         return at;
     }
-    if !roots.has(r) {
-        return at;
-    }
     out[at] = b' ';
-    let colon = decimal(r, out, at + 1);
+    let colon = small(r as u16, out, at + 1);
     out[colon] = b':';
-    decimal(leaf as usize, out, colon + 1)
+    small(leaf as u16, out, colon + 1)
+}
+
+// The hung roots below n. Members come out ascending, so the first that is not below n ends it.
+fn all_hung(placing: &[u8], n: usize, roots: NodeSet, out: &mut [u8], at: usize) -> usize
+    requires { ⌜ (n ≤ length (now placing)) × (at + length (hungIn roots (now placing) n) ≤ length (now out)) ⌝ }
+    ensures { λ e. ⌜ Written (now (out .entry)) at (hungIn roots (now (placing .entry)) n) (now (out .exit)) e ⌝ }
+{
+    let mut end = at;
+    let mut left = roots;
+    loop {
+        let Popped::Member(r, rest) = left.pop() else {
+            return end;
+        };
+        if n <= r {
+            return end;
+        }
+        end = hung(placing[r], r, out, end);
+        left = rest;
+    }
 }
 
 // The line of reading k, whose placing is in the first n bytes.
@@ -99,10 +135,8 @@ pub fn reading_line(
     ensures { λ e. ⌜ Written (now (out .entry)) at (lineIn n roots (now (placing .entry)) k) (now (out .exit)) e ⌝ }
     ensures { λ e. ⌜ e ≤ length (now (out .entry)) ⌝ }
 {
-    let mut end = decimal(k, out, at);
-    for r in 0..n {
-        end = hung(roots, placing[r], r, out, end);
-    }
+    let after_number = decimal(k, out, at);
+    let end = all_hung(placing, n, roots, out, after_number);
     out[end] = b'\n';
     end + 1
 }
