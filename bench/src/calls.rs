@@ -1,91 +1,99 @@
-//! Lists and counts within this process: the library's calls beside the other ways.
+//! Lists and counts within this process: the library's calls beside the other ways. Nothing ends a call, so a way is called only
+//! where it came to an end as a program.
 use crate::cases::Case;
 use crate::measure::medians;
 use crate::placings::{Counted, Placings};
 use crate::sheet::Sheet;
 use crate::table::WAYS;
 use crate::{free, plain, reduced};
-use bixtogan::{Count, Place};
+use bixtogan::Count;
 use differential::{Refused, LAST};
 use std::collections::BTreeSet;
 use std::hint::black_box;
 use std::time::Duration;
 
+/// Which ways are called.
+pub type Called = [bool; WAYS];
+
+type List = fn(&[u8], &mut Placings) -> Result<(), Refused>;
+
+const LISTS: [List; WAYS] = [ours, recursion, on_reduced, fragments];
+const COUNTS: [fn(&[u8]) -> u64; WAYS] = [our_count, recursion_count, reduced_count, chart_count];
+
 fn wrong(case: &Case, what: &str) -> String {
     format!("{}: {what}", case.name)
 }
 
-/// All readings by one call of the library; how many bytes they fill.
-fn ours(sheet: &[u8], nodes: usize, out: &mut [u8]) -> usize {
-    Place::start().fill(sheet, out).map_or(0, |readings| readings * nodes)
+/// All readings by one call of the library.
+fn ours(bytes: &[u8], placings: &mut Placings) -> Result<(), Refused> {
+    placings.fill(bytes);
+    Ok(())
 }
 
-fn recursion(bytes: &[u8], placings: &mut Placings) -> Result<usize, Refused> {
+fn recursion(bytes: &[u8], placings: &mut Placings) -> Result<(), Refused> {
     placings.clear();
     plain::list(&Sheet::read(bytes)?, placings);
-    Ok(placings.written().len())
+    Ok(())
 }
 
-fn on_reduced(bytes: &[u8], placings: &mut Placings) -> Result<usize, Refused> {
+fn on_reduced(bytes: &[u8], placings: &mut Placings) -> Result<(), Refused> {
     placings.clear();
     reduced::list(&Sheet::read(bytes)?, placings);
-    Ok(placings.written().len())
+    Ok(())
 }
 
-fn fragments(bytes: &[u8], placings: &mut Placings) -> Result<usize, Refused> {
+fn fragments(bytes: &[u8], placings: &mut Placings) -> Result<(), Refused> {
     placings.clear();
     free::list(&Sheet::read(bytes)?, placings);
-    Ok(placings.written().len())
+    Ok(())
 }
 
 fn placings(bytes: &[u8], nodes: usize) -> BTreeSet<&[u8]> {
     bytes.chunks(nodes).collect()
 }
 
+fn sheet_of(case: &Case) -> Result<Sheet, String> {
+    Sheet::read(&case.sheet).map_err(|_| wrong(case, "not well-formed"))
+}
+
 /// Whether all list and count alike; how many readings are listed.
-pub fn agree(case: &Case) -> Result<u64, String> {
+pub fn agree(case: &Case, called: Called) -> Result<u64, String> {
     let bytes = &case.sheet[..];
-    let counts = [our_count, recursion_count, reduced_count, chart_count].map(|count| count(bytes));
-    if counts != [counts[0]; WAYS] {
+    let counts: Vec<u64> = (0..WAYS).filter(|&way| called[way]).map(|way| COUNTS[way](bytes)).collect();
+    let count = counts.first().copied().unwrap_or_default();
+    if counts.iter().any(|&other| other != count) {
         return Err(wrong(case, &format!("counts {counts:?}")));
     }
-    let sheet = Sheet::read(bytes).map_err(|_| wrong(case, "not well-formed"))?;
-    let mut out = vec![0; LAST as usize * sheet.nodes];
-    let [mut in_order, mut by_reduced, mut in_chart_order] = [(); 3].map(|()| Placings::new(&sheet));
-    let written = ours(bytes, sheet.nodes, &mut out);
-    let others =
-        [recursion(bytes, &mut in_order), on_reduced(bytes, &mut by_reduced), fragments(bytes, &mut in_chart_order)];
-    if others != [Ok(written); 3] || (written / sheet.nodes) as u64 != counts[0].min(LAST) {
+    let sheet = sheet_of(case)?;
+    let mut rooms = [(); WAYS].map(|()| Placings::new(&sheet));
+    for way in (0..WAYS).filter(|&way| called[way]) {
+        LISTS[way](bytes, &mut rooms[way]).map_err(|_| wrong(case, "not well-formed"))?;
+    }
+    let lists: [Option<&[u8]>; WAYS] = std::array::from_fn(|way| called[way].then_some(rooms[way].written()));
+    let listed = count.min(LAST);
+    if lists.iter().flatten().any(|list| list.len() != listed as usize * sheet.nodes) {
         return Err(wrong(case, "lists of other lengths"));
     }
-    if [&in_order, &by_reduced].iter().any(|list| out[..written] != *list.written()) {
+    let [in_order @ .., free] = lists;
+    let in_order: Vec<&[u8]> = in_order.into_iter().flatten().collect();
+    if in_order.windows(2).any(|pair| pair[0] != pair[1]) {
         return Err(wrong(case, "a recursion lists otherwise"));
     }
-    let whole = counts[0] <= LAST;
-    if whole && placings(&out[..written], sheet.nodes) != placings(in_chart_order.written(), sheet.nodes) {
+    let whole = in_order.first().copied().zip(free).filter(|_| count <= LAST);
+    if whole.is_some_and(|(ours, free)| placings(ours, sheet.nodes) != placings(free, sheet.nodes)) {
         return Err(wrong(case, "free fragments list otherwise"));
     }
-    Ok((written / sheet.nodes) as u64)
+    Ok(listed)
 }
 
 /// The times of the lists. All read the sheet's bytes and write placings into a buffer that is there already.
-pub fn lists(case: &Case, repeat: usize) -> Result<[Duration; WAYS], String> {
-    let sheet = Sheet::read(&case.sheet).map_err(|_| wrong(case, "not well-formed"))?;
-    let mut out = vec![0; LAST as usize * sheet.nodes];
-    let [mut in_order, mut by_reduced, mut in_chart_order] = [(); 3].map(|()| Placings::new(&sheet));
-    let bytes = || black_box(&case.sheet[..]);
-    Ok(medians(
-        repeat,
-        [
-            &mut || Ok(ours(bytes(), sheet.nodes, &mut out)),
-            &mut || recursion(bytes(), &mut in_order),
-            &mut || on_reduced(bytes(), &mut by_reduced),
-            &mut || fragments(bytes(), &mut in_chart_order),
-        ],
-    ))
+pub fn lists(case: &Case, repeat: usize, called: Called) -> Result<[Option<Duration>; WAYS], String> {
+    let sheet = sheet_of(case)?;
+    let mut rooms = [(); WAYS].map(|()| Placings::new(&sheet));
+    Ok(medians(repeat, called, |way| LISTS[way](black_box(&case.sheet), &mut rooms[way])))
 }
 
-fn our_count(sheet: &[u8]) -> u64 {
+pub fn our_count(sheet: &[u8]) -> u64 {
     match bixtogan::count(sheet) {
         Ok(Count::Exactly(count)) => count,
         Ok(Count::More) => LAST + 1,
@@ -114,12 +122,6 @@ fn chart_count(bytes: &[u8]) -> u64 {
 }
 
 /// The times of the counts.
-pub fn counts(case: &Case, repeat: usize) -> [Duration; WAYS] {
-    let bytes = || black_box(&case.sheet[..]);
-    medians(
-        repeat,
-        [&mut || our_count(bytes()), &mut || recursion_count(bytes()), &mut || reduced_count(bytes()), &mut || {
-            chart_count(bytes())
-        }],
-    )
+pub fn counts(case: &Case, repeat: usize, called: Called) -> [Option<Duration>; WAYS] {
+    medians(repeat, called, |way| COUNTS[way](black_box(&case.sheet)))
 }

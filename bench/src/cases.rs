@@ -1,4 +1,5 @@
 //! The sheets.
+use crate::families::Family;
 use differential::fragments;
 use differential::graph::{Graph, Node};
 use differential::random::Random;
@@ -19,7 +20,7 @@ fn graph(nodes: usize, tree: &[(Node, Node)], dominance: &[(Node, Node)]) -> Gra
 }
 
 fn chains() -> Vec<Case> {
-    (3..=10).map(|length| Case { name: format!("chain of {length}"), sheet: chain(length) }).collect()
+    (3..=12).map(|length| Case { name: format!("chain of {length}"), sheet: chain(length) }).collect()
 }
 
 /// Sheets of all kinds with some hundreds or thousands of readings.
@@ -50,14 +51,17 @@ fn fork() -> Graph {
 }
 
 /// The recursion finds the fork only when it has listed the chain, as often as the chain has readings.
-fn refused() -> Vec<Case> {
-    let lengths = [0, 6, 8, 10, 12, 14];
-    let beside = |length: usize| match sheet::read(&chain(length)) {
+pub fn beside_fork(length: usize) -> Graph {
+    match sheet::read(&chain(length)) {
         Ok(chain) if length > 0 => side_by_side(&[chain, fork()]),
         _ => fork(),
-    };
+    }
+}
+
+fn refused() -> Vec<Case> {
+    let lengths = [0, 6, 8, 10, 12, 14];
     let name = |length| format!("refused, fork beside a chain of {length}");
-    lengths.iter().map(|&length| Case { name: name(length), sheet: sheet::tidy(&beside(length)) }).collect()
+    lengths.iter().map(|&length| Case { name: name(length), sheet: sheet::tidy(&beside_fork(length)) }).collect()
 }
 
 /// P with leaves p, p' and Q with leaf q, both above V and W: p and q above V, p' and q above W. There is one reading, Q on top;
@@ -69,7 +73,7 @@ fn gadget() -> Graph {
 }
 
 /// So many of them, numbered so that all choices at a V come before all at a W: the recursion goes into both halves of each.
-fn dying_halves(gadgets: usize) -> Graph {
+pub fn dying_halves(gadgets: usize) -> Graph {
     let whole = side_by_side(&(0..gadgets).map(|_| gadget()).collect::<Vec<Graph>>());
     let mut names = vec![0; whole.nodes()];
     let mut next = 0;
@@ -92,23 +96,72 @@ fn halves() -> Vec<Case> {
     [2, 4, 6, 8, 10, 12, 14].into_iter().map(case).collect()
 }
 
-pub fn all() -> Vec<Case> {
+/// Nodes and edges of the families, one sheet each.
+const FAMILIES: [(Family, usize, usize); 12] = [
+    (Family::Dag, 64, 60),
+    (Family::Dag, 64, 120),
+    (Family::Dag, 128, 120),
+    (Family::Dag, 128, 255),
+    (Family::Band, 64, 60),
+    (Family::Band, 128, 120),
+    (Family::Bipartite, 64, 120),
+    (Family::Bipartite, 128, 255),
+    (Family::Forks, 64, 24),
+    (Family::Forks, 64, 30),
+    (Family::Forks, 128, 48),
+    (Family::Forks, 128, 60),
+];
+
+/// With thousands of readings; where the chart that counts them grows too large, there are more.
+fn families(sizes: &[(Family, usize, usize)], fewest: u64) -> Vec<Case> {
+    let case = |&(family, nodes, edges): &(Family, usize, usize)| {
+        let mut random = Random::new(21);
+        let graph = loop {
+            let graph = family.graph(&mut random, nodes, edges);
+            if graph.dominance.len() == edges && fragments::count(&graph, 5000).is_none_or(|count| count >= fewest) {
+                break graph;
+            }
+        };
+        Case { name: format!("{}, {nodes} nodes and {edges} edges", family.name()), sheet: sheet::tidy(&graph) }
+    };
+    sizes.iter().map(case).collect()
+}
+
+/// Those that all ways list in a short time.
+fn quick() -> Vec<Case> {
     [chains(), random_sheets(), refused(), halves()].into_iter().flatten().collect()
+}
+
+pub fn all() -> Vec<Case> {
+    quick().into_iter().chain(families(&FAMILIES, 5000)).collect()
 }
 
 #[cfg(test)]
 mod tests {
+    use crate::families::Family;
     use crate::{calls, lines, printed};
 
     const WAYS: [&str; 3] = ["recursion", "reduced", "free"];
 
-    /// Text, placings and counts are the same, on every case.
+    /// The families again, so small that all ways come to an end.
+    const SMALL: [(Family, usize, usize); 4] =
+        [(Family::Dag, 24, 20), (Family::Band, 28, 24), (Family::Bipartite, 24, 20), (Family::Forks, 40, 16)];
+
+    /// Text, placings and counts are the same.
     #[test]
     fn the_ways_agree() {
-        for case in super::all() {
+        for case in super::quick().into_iter().chain(super::families(&SMALL, 100)) {
             let [recursion, reduced, free] = WAYS.map(|way| printed(way, &case.sheet).unwrap());
-            assert_eq!(lines::compare(&recursion, [&recursion, &reduced, &recursion], &free), Ok(()), "{}", case.name);
-            calls::agree(&case).unwrap();
+            assert_eq!(lines::compare(&[&recursion, &reduced], Some(&free)), Ok(()), "{}", case.name);
+            calls::agree(&case, [true; 4]).unwrap();
+        }
+    }
+
+    #[test]
+    fn the_families_are_as_large_as_they_say() {
+        for (case, (_, nodes, edges)) in super::families(&super::FAMILIES, 5000).iter().zip(super::FAMILIES) {
+            let graph = differential::sheet::read(&case.sheet).unwrap();
+            assert_eq!((graph.nodes(), graph.dominance.len()), (nodes, edges), "{}", case.name);
         }
     }
 

@@ -1,13 +1,14 @@
 //! Instructions that a program executes, by callgrind.
-use crate::measure::{run, Program};
+use crate::measure::{run_within, Program};
 use std::process::Command;
+use std::time::Duration;
 
-/// None where there is no valgrind.
-pub fn of(program: &Program, sheet: &[u8]) -> Option<u64> {
+/// None where there is no valgrind, or where it takes longer than the limit.
+pub fn of(program: &Program, sheet: &[u8], limit: Duration) -> Option<u64> {
     let mut command = Command::new("valgrind");
     command.args(["--tool=callgrind", "--callgrind-out-file=/dev/null"]);
     command.arg(&program.path).args(&program.arguments);
-    let (_, errors) = run(command, sheet).ok()?;
+    let (_, errors) = run_within(limit, command, sheet).ok()??;
     collected(&String::from_utf8_lossy(&errors))
 }
 

@@ -87,11 +87,14 @@ fn readings(text: &str) -> BTreeSet<&str> {
     text.lines().skip(1).map(|line| line.split_once(' ').map_or("", |(_, hung)| hung)).collect()
 }
 
-/// The recursions and `readings` list in our order, byte for byte; free fragments list in another, but the same readings.
-pub fn compare(ours: &[u8], same: [&[u8]; 3], free: &[u8]) -> Result<(), String> {
-    if same.iter().any(|&text| text != ours) {
+/// We, the recursions and `readings` list in one order, byte for byte; free fragments list in another, but the same readings.
+pub fn compare(in_order: &[&[u8]], free: Option<&[u8]>) -> Result<(), String> {
+    if in_order.windows(2).any(|pair| pair[0] != pair[1]) {
         return Err("a recursion or `readings` lists otherwise".to_string());
     }
+    let (Some(&ours), Some(free)) = (in_order.first(), free) else {
+        return Ok(());
+    };
     let alike = count(ours) == count(free);
     let whole = !count(ours).starts_with("more");
     let (ours, free) = (String::from_utf8_lossy(ours), String::from_utf8_lossy(free));

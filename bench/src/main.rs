@@ -3,6 +3,7 @@
 //! that all agree.
 mod calls;
 mod cases;
+mod families;
 mod free;
 mod instructions;
 mod lines;
@@ -12,38 +13,51 @@ mod plain;
 mod reduced;
 mod sheet;
 mod table;
+mod tables;
+mod worst;
 
-use cases::Case;
 use lines::Lines;
-use measure::{Program, PROGRAMS};
 use sheet::Sheet;
 use std::io::{Read, Write};
 use std::process::ExitCode;
-use table::{microseconds, milliseconds, WAYS};
+use std::time::Duration;
 
 const USAGE: &str = "\
-usage: bench [--repeat N] [--readings PATH] [--instructions] [--family WORD]
+usage: bench [--repeat N] [--limit SECONDS] [--readings PATH] [--instructions] [--family WORD]
   --repeat N       runs of which the median is taken (default 15)
+  --limit SECONDS  a program that takes longer is killed (default 10), and its way left out of what follows; free fragments take
+                   a gigabyte in ten seconds
   --readings PATH  our program `readings` (default target/bin/readings)
   --instructions   instructions executed by the programs, by callgrind, in place of times
-  --family WORD    only the cases whose name begins with it: chain, random, refused, halves
+  --family WORD    only the cases whose name begins with it: chain, random, refused, halves, dag, band, bipartite, forks
+       bench worst [--seed N] [--sheets N]
+  --seed N         the seed of the first sheet (default 1); the next has the next seed
+  --sheets N       how many random sheets (default 200) our calls are timed on; the slowest are printed with their seeds
+       bench sheet SEED                               the sheet of `worst` with that seed, as bytes
        bench list recursion|reduced|free < SHEET
 ";
 
 struct Options {
     repeat: usize,
+    limit: Duration,
     readings: String,
     instructions: bool,
     family: String,
 }
 
 fn options(arguments: &[String]) -> Option<Options> {
-    let readings = "target/bin/readings".to_string();
-    let mut options = Options { repeat: 15, readings, instructions: false, family: String::new() };
+    let mut options = Options {
+        repeat: 15,
+        limit: Duration::from_secs(10),
+        readings: "target/bin/readings".to_string(),
+        instructions: false,
+        family: String::new(),
+    };
     let mut rest = arguments.iter();
     while let Some(name) = rest.next() {
         match name.as_str() {
             "--repeat" => options.repeat = rest.next()?.parse().ok().filter(|&repeat| repeat > 0)?,
+            "--limit" => options.limit = Duration::try_from_secs_f64(rest.next()?.parse().ok()?).ok()?,
             "--readings" => options.readings = rest.next()?.clone(),
             "--instructions" => options.instructions = true,
             "--family" => options.family = rest.next()?.clone(),
@@ -51,6 +65,19 @@ fn options(arguments: &[String]) -> Option<Options> {
         }
     }
     Some(options)
+}
+
+/// The seed of the first sheet, and how many there are.
+fn seeds(arguments: &[String]) -> Option<(u64, u64)> {
+    let (mut seed, mut sheets) = (1, 200);
+    for pair in arguments.chunks(2) {
+        match pair {
+            [name, value] if name == "--seed" => seed = value.parse().ok()?,
+            [name, value] if name == "--sheets" => sheets = value.parse().ok()?,
+            _ => return None,
+        }
+    }
+    Some((seed, sheets))
 }
 
 /// The printed list of a sheet, made in one of the other ways.
@@ -76,72 +103,26 @@ fn list(way: &str) -> Option<()> {
     std::io::stdout().write_all(&printed(way, &bytes)?).ok()
 }
 
-/// The programs on one case: what line 1 says, and what each of them takes.
-fn programs(
-    options: &Options,
-    programs: &[Program; PROGRAMS],
-    case: &Case,
-) -> Result<(String, [Option<f64>; PROGRAMS]), String> {
-    let [ours, recursion, reduced, free, readings] = programs.each_ref().map(|program| program.output(&case.sheet));
-    lines::compare(&ours, [&recursion, &reduced, &readings], &free).map_err(|why| format!("{}: {why}", case.name))?;
-    let run = |program: usize| programs[program].output(&case.sheet);
-    let amounts = if options.instructions {
-        let millions = |instructions: u64| instructions as f64 / 1e6;
-        programs.each_ref().map(|program| instructions::of(program, &case.sheet).map(millions))
-    } else {
-        milliseconds(measure::medians(
-            options.repeat,
-            [&mut || run(0), &mut || run(1), &mut || run(2), &mut || run(3), &mut || run(4)],
-        ))
-    };
-    Ok((lines::count(&ours), amounts))
-}
-
-fn tables(options: &Options) -> Result<(), String> {
-    let cases: Vec<Case> = cases::all().into_iter().filter(|case| case.name.starts_with(&options.family)).collect();
-    let ways = Program::all(&options.readings)?;
-    let unit = if options.instructions { "millions of instructions" } else { "milliseconds" };
-    table::heading("The list as text, a process each", unit, PROGRAMS);
-    for case in &cases {
-        let (readings, amounts) = programs(options, &ways, case)?;
-        table::row(&case.name, &readings, amounts);
+/// What the words ask for; none where they ask for nothing that there is.
+fn run(arguments: &[String]) -> Option<Result<(), String>> {
+    let words: Vec<&str> = arguments.iter().map(String::as_str).collect();
+    match words[..] {
+        ["list", way] => list(way).map(Ok),
+        ["sheet", seed] => std::io::stdout().write_all(&worst::sheet(seed.parse().ok()?)).ok().map(Ok),
+        ["worst", ..] => seeds(&arguments[1..]).map(|(seed, sheets)| worst::search(seed, sheets)),
+        _ => options(arguments).map(|options| tables::print(&options)),
     }
-    if options.instructions {
-        return Ok(());
-    }
-    let readings: Vec<String> =
-        cases.iter().map(|case| Ok(calls::agree(case)?.to_string())).collect::<Result<_, String>>()?;
-    println!();
-    table::heading("The list as placings, a call each", "microseconds", WAYS);
-    for (case, readings) in cases.iter().zip(&readings) {
-        table::row(&case.name, readings, microseconds(calls::lists(case, options.repeat)?));
-    }
-    println!();
-    table::heading(
-        "The count, a call each (the chart multiplies, the others walk through all readings)",
-        "microseconds",
-        WAYS,
-    );
-    for (case, readings) in cases.iter().zip(&readings) {
-        table::row(&case.name, readings, microseconds(calls::counts(case, options.repeat)));
-    }
-    Ok(())
 }
 
 fn main() -> ExitCode {
     let arguments: Vec<String> = std::env::args().skip(1).collect();
-    if let [word, way] = &arguments[..] {
-        if word == "list" {
-            return list(way).map_or(ExitCode::from(2), |()| ExitCode::SUCCESS);
+    match run(&arguments) {
+        None => {
+            eprint!("{USAGE}");
+            ExitCode::from(2)
         }
-    }
-    let Some(options) = options(&arguments) else {
-        eprint!("{USAGE}");
-        return ExitCode::from(2);
-    };
-    match tables(&options) {
-        Ok(()) => ExitCode::SUCCESS,
-        Err(why) => {
+        Some(Ok(())) => ExitCode::SUCCESS,
+        Some(Err(why)) => {
             eprintln!("bench: {why}");
             ExitCode::FAILURE
         }

@@ -1,5 +1,6 @@
 //! The list as placings, n bytes each, as the call of the library writes it; and the count alone.
 use crate::sheet::{Readings, Sheet, TOP};
+use bixtogan::Place;
 use differential::LAST;
 
 /// A buffer for the placings of a sheet, which is used again and again.
@@ -17,6 +18,11 @@ impl<'a> Placings<'a> {
 
     pub fn clear(&mut self) {
         self.written = 0;
+    }
+
+    /// Has the library write all of them by one call.
+    pub fn fill(&mut self, sheet: &[u8]) {
+        self.written = Place::start().fill(sheet, &mut self.out).map_or(0, |readings| readings * self.sheet.nodes);
     }
 
     pub fn written(&self) -> &[u8] {

@@ -14,24 +14,57 @@ pub fn heading(what: &str, unit: &str, ways: usize) {
     println!("|---|{}", "---:|".repeat(2 * ways));
 }
 
-fn cell(amount: Option<f64>) -> String {
-    match amount {
-        None => "-".to_string(),
-        Some(amount) if amount < 1.0 => format!("{amount:.3}"),
-        Some(amount) => format!("{amount:.2}"),
+/// What a way takes.
+#[derive(Clone, Copy)]
+pub enum Amount {
+    Of(f64),
+    /// It was ended there.
+    Over(f64),
+    Unknown,
+}
+
+impl Amount {
+    fn cell(self) -> String {
+        match self {
+            Amount::Unknown => "-".to_string(),
+            Amount::Over(amount) => format!("> {}", (amount * 100.0).floor() / 100.0),
+            Amount::Of(amount) if amount < 1.0 => format!("{amount:.3}"),
+            Amount::Of(amount) => format!("{amount:.2}"),
+        }
+    }
+
+    /// How many times as much as ours it is.
+    fn ratio(self, ours: Amount) -> Amount {
+        match (self, ours) {
+            (Amount::Of(amount), Amount::Of(ours)) => Amount::Of(amount / ours),
+            (Amount::Over(amount), Amount::Of(ours)) => Amount::Over(amount / ours),
+            _ => Amount::Unknown,
+        }
     }
 }
 
-pub fn row<const N: usize>(name: &str, readings: &str, amounts: [Option<f64>; N]) {
-    let ratio = |other: &Option<f64>| cell(other.zip(amounts[0]).map(|(other, ours)| other / ours));
-    let ratios: Vec<String> = amounts[1..].iter().map(ratio).collect();
-    println!("| {name} | {readings} | {} | {} |", amounts.map(cell).join(" | "), ratios.join(" | "));
+pub fn row<const N: usize>(name: &str, readings: &str, amounts: [Amount; N]) {
+    let ratios: Vec<String> = amounts[1..].iter().map(|other| other.ratio(amounts[0]).cell()).collect();
+    println!("| {name} | {readings} | {} | {} |", amounts.map(Amount::cell).join(" | "), ratios.join(" | "));
 }
 
-pub fn milliseconds<const N: usize>(times: [Duration; N]) -> [Option<f64>; N] {
-    times.map(|time| Some(time.as_secs_f64() * 1e3))
+/// Of the programs: one without a time has run until the limit.
+pub fn milliseconds<const N: usize>(times: [Option<Duration>; N], limit: Duration) -> [Amount; N] {
+    let amount = |time: Duration| time.as_secs_f64() * 1e3;
+    times.map(|time| time.map_or(Amount::Over(amount(limit)), |time| Amount::Of(amount(time))))
 }
 
-pub fn microseconds<const N: usize>(times: [Duration; N]) -> [Option<f64>; N] {
-    times.map(|time| Some(time.as_secs_f64() * 1e6))
+pub fn microseconds<const N: usize>(times: [Option<Duration>; N]) -> [Amount; N] {
+    times.map(|time| time.map_or(Amount::Unknown, |time| Amount::Of(time.as_secs_f64() * 1e6)))
+}
+
+#[cfg(test)]
+mod tests {
+    use super::Amount;
+
+    #[test]
+    fn over_the_limit() {
+        let (over, ours) = (Amount::Over(10_000.0), Amount::Of(1500.0));
+        assert_eq!([over, over.ratio(ours), ours.ratio(over)].map(Amount::cell), ["> 10000", "> 6.66", "-"]);
+    }
 }

@@ -62,7 +62,7 @@ pub fn untidy(random: &mut Random, graph: &Graph) -> Vec<u8> {
 
 /// How trees grow.
 #[derive(Clone, Copy)]
-enum Trees {
+pub enum Trees {
     /// Every node below the root is a leaf.
     Flat,
     /// Long paths with few side branches.
@@ -71,7 +71,7 @@ enum Trees {
 }
 
 /// Trees without dominance edges, each of two nodes or more.
-fn forest(random: &mut Random, nodes: usize, fragments: usize, trees: Trees) -> Graph {
+pub fn forest(random: &mut Random, nodes: usize, fragments: usize, trees: Trees) -> Graph {
     let mut sizes = vec![2; fragments];
     for _ in 2 * fragments..nodes {
         sizes[random.below(fragments)] += 1;
