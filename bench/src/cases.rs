@@ -112,7 +112,8 @@ const FAMILIES: [(Family, usize, usize); 12] = [
     (Family::Forks, 128, 60),
 ];
 
-/// With thousands of readings; where the chart that counts them grows too large, there are more.
+/// The first that have all their edges and so many readings at least. Where the chart that counts them grows too large, it is taken
+/// that there are more.
 fn families(sizes: &[(Family, usize, usize)], fewest: u64) -> Vec<Case> {
     let case = |&(family, nodes, edges): &(Family, usize, usize)| {
         let mut random = Random::new(21);
@@ -127,7 +128,7 @@ fn families(sizes: &[(Family, usize, usize)], fewest: u64) -> Vec<Case> {
     sizes.iter().map(case).collect()
 }
 
-/// Those that all ways list in a short time.
+/// Those on which all ways come to an end soon.
 fn quick() -> Vec<Case> {
     [chains(), random_sheets(), refused(), halves()].into_iter().flatten().collect()
 }
