@@ -2,7 +2,7 @@
 -- and that the members are all of the set. Each takes the words apart at 64 and cites the law of one word.
 use Prim.Native.Nat.{ℕ, _+_, _-_, _^_, _≤_, _<_}
 use mathlib.Core.Path.{_≡_, sym, ap₂, _∙_}
-use mathlib.Core.Bool.{Bool, false, cond, not, Bool·not-not, _||_, _&&_}
+use mathlib.Core.Bool.{Bool, false, cond, not, Bool·not-not, _||_, _&&_, and-comm}
 use native.Mathlib.Nat.{add-sub-cancel-left}
 use native.Mathlib.Omega.{arith}
 use lib.Bits.{bitAnd, bitOr, bitXor}
@@ -10,7 +10,7 @@ use lib.Count.{ones, trailingZeros}
 use lib.Dec.{eqb, ltb}
 use borrow.Author.Tests.{lt-ltb, le-ltb, ltb-true, ltb-false, eqb-true, eqb-false, eq-eqb, ne-eqb}
 use Rattle.base_finite.specs.Below.{any, count, least}
-use Rattle.base_finite.proofs.Laws.{by-bool, any-ext, count-ext}
+use Rattle.base_finite.proofs.Laws.{by-bool, any-ext, count-ext, and-true, and-false}
 use Rattle.base_nodeset.specs.Set.{bit, member}
 use Rattle.base_finite.proofs.Bounds.{any-join, count-join, least-join, least-ext}
 use Rattle.base_nodeset.proofs.Words.{bit-zero, bit-beyond, bit-and, bit-or, bit-difference, bit-power, any-bit, ones-count, trailing-least}
@@ -77,6 +77,30 @@ member-only-high i k h =
     rw f (by-bool (eqb k i)
     (λ t. rw (t, eq-eqb (k - 64) (i - 64) (omega (arith, eqb-true k i t))))
     (λ g. rw (g, ne-eqb (k - 64) (i - 64) (λ e. eqb-false k i g (omega arith)))))))
+
+-- A set without one number, of which one word changes.
+
+pub member-without-low : (low high i k : ℕ) → i < 64
+    → member (bitXor low (bitAnd low (2 ^ i))) high k ≡ (not (eqb k i) && member low high k)
+unfolding member
+member-without-low low high i k h =
+    rw (bit-difference low (2 ^ i) k, bit-power i k)
+    (by-bool (ltb k 64)
+    (λ t. rw t (and-comm (bit low k) (not (eqb k i))))
+    (λ f. rw (f, ne-eqb k i (λ e. omega (arith, ltb-false k 64 f)))))
+
+pub member-without-high : (low high i k : ℕ)
+    → member low (bitXor high (bitAnd high (2 ^ i))) k ≡ (not (eqb k (64 + i)) && member low high k)
+unfolding member
+member-without-high low high i k =
+    rw (bit-difference high (2 ^ i) (k - 64), bit-power i (k - 64))
+    (by-bool (ltb k 64)
+    (λ t. rw (t, ne-eqb k (64 + i) (λ e. omega (arith, ltb-true k 64 t))))
+    (λ f.
+    let above : 64 ≤ k = ltb-false k 64 f in
+    rw f (by-bool (eqb k (64 + i))
+    (λ t. rw (t, eq-eqb (k - 64) i (omega (arith, eqb-true k (64 + i) t))) (and-false (bit high (k - 64))))
+    (λ g. rw (g, ne-eqb (k - 64) i (λ e. eqb-false k (64 + i) g (omega arith))) (and-true (bit high (k - 64)))))))
 
 -- The members together.
 

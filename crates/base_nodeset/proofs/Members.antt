@@ -1,9 +1,10 @@
 -- Going through the members of a set, the lowest first: what `pop` finds, and what is in a set without a member.
 -- All members are below 128, where the high word has its 64 bits.
-use Prim.Native.Nat.{ℕ, _+_, _^_, _≤_, _<_}
+use Prim.Native.Nat.{ℕ, _+_, _^_, _<_}
 use mathlib.Core.Path.{_≡_, sym, ap, _∙_}
 use mathlib.Core.Bool.{Bool, true, false, not, true≢false}
 use native.Mathlib.Omega.{arith}
+use lib.Count.{trailingZeros}
 use lib.Dec.{eqb, ltb}
 use borrow.Author.Tests.{eq-eqb, ne-eqb, eqb-true, eqb-false, lt-ltb, ltb-true, ltb-false, not-true}
 use Rattle.base_finite.specs.Below.{any, count, least}
@@ -11,7 +12,8 @@ use Rattle.base_finite.proofs.Laws.{and-both, by-bool, not-not, any-false, coun
 use Rattle.base_nodeset.specs.Set.{mem, OfByte, Removed, Lowest, Pops, Difference}
 use Rattle.base_nodeset.specs.declared.NodeSet.{NodeSet}
 use Rattle.base_nodeset.specs.declared.Popped.the-variants.{None, Member}
-use Rattle.base_nodeset.proofs.Laws.{member-beyond}
+use Rattle.base_nodeset.proofs.Words.{trailing-below}
+use Rattle.base_nodeset.proofs.Laws.{member-zero, member-beyond, least-member}
 
 abbrev pub Small : NodeSet → Type 0
 Small s = (k : ℕ) → mem s k ≡ true → k < 128
@@ -64,16 +66,7 @@ difference-out s t r is k e = is k ∙ rw e
 pub one-less : (s : NodeSet) (k : ℕ) (t : NodeSet) → k < 128 → mem s k ≡ true → Removed s k t → count 128 (mem s) ≡ count 128 (mem t) + 1
 one-less s k t h m r = count-one-more 128 (mem t) (mem s) k h (removed-gone s k t r) m (removed-other s k t r)
 
--- the least number below 128 that is in s, and 128 where there is none
-
-pub pops-none : (s : NodeSet) (k : ℕ) → s .high < 2 ^ 64 → k ≡ least 128 (mem s) → 128 ≤ k → Pops s None
-pops-none s k h e l = record {
-  empty = λ _ j.
-      by-bool (mem s j)
-      (λ m. let small : j < 128 = small-set s h j m in least-below 128 (mem s) j (omega arith))
-      (λ m. m);
-  lowest = λ x t q. let z : _≡_ {A = ℕ} 0 1 = cc in absurd (omega arith);
-}
+-- the least number below 128 that is in s
 
 pub pops-lowest : (s : NodeSet) (k : ℕ) (t : NodeSet) → k ≡ least 128 (mem s) → k < 128 → Removed s k t → Pops s (Member k t)
 pops-lowest s k t e h r =
@@ -92,6 +85,25 @@ pops-lowest s k t e h r =
           let f : u ≡ t = cc in
           rw (e, f) found;
     }
+
+-- the lowest member by words
+
+pub pops-low : (s t : NodeSet) → s .low < 2 ^ 64 → (s .low ≡ 0 → ⊥) → Removed s (trailingZeros 64 (s .low)) t → Pops s (Member (trailingZeros 64 (s .low)) t)
+pops-low s t h some r =
+    pops-lowest s (trailingZeros 64 (s .low)) t (rw (least-member (s .low) (s .high) h, ne-eqb (s .low) 0 some))
+    (omega (arith, trailing-below 64 (s .low) h some)) r
+
+pub pops-high : (s t : NodeSet) → s .high < 2 ^ 64 → s .low ≡ 0 → (s .high ≡ 0 → ⊥) → Removed s (64 + trailingZeros 64 (s .high)) t
+    → Pops s (Member (64 + trailingZeros 64 (s .high)) t)
+pops-high s t h none some r =
+    pops-lowest s (64 + trailingZeros 64 (s .high)) t (rw (least-member (s .low) (s .high) (omega arith), eq-eqb (s .low) 0 none))
+    (omega (arith, trailing-below 64 (s .high) h some)) r
+
+pub pops-zero : (s : NodeSet) → s .low ≡ 0 → s .high ≡ 0 → Pops s None
+pops-zero s e f = record {
+  empty = λ _ j. rw (e, f) (member-zero j);
+  lowest = λ x t q. let z : _≡_ {A = ℕ} 0 1 = cc in absurd (omega arith);
+}
 
 -- the set of a byte's node
 pub of-byte-is : (byte : ℕ) (s : NodeSet) → OfByte byte s → (k : ℕ) → k < 128 → mem s k ≡ eqb byte k

@@ -17,6 +17,7 @@ use Rattle.base_finite.specs.Below.{any, count, least}
 use Rattle.base_finite.proofs.Laws.{by-bool, any-none, any-false, count-le, least-le}
 use Rattle.base_nodeset.specs.Set.{bit}
 use Rattle.base_finite.proofs.Bounds.{count-first, least-first}
+use Rattle.base_finite.proofs.Counting.{least-found}
 
 digit-cases : (d : ℕ) → d < 2 → (d ≡ 0) ⊎ (d ≡ 1)
 digit-cases zero h = inl refl
@@ -145,3 +146,7 @@ trailing-least (suc n) w =
     (simp bit-half
     (rw (← trailing-least n (w / 2))
     (⊎-elim (λ (e : w % 2 ≡ 0). rw e) (λ (e : w % 2 ≡ 1). rw e) (digit-cases (w % 2) (digit-lt w)))))
+
+-- a word that has a bit has its lowest one below n
+pub trailing-below : (n w : ℕ) → w < 2 ^ n → (w ≡ 0 → ⊥) → trailingZeros n w < n
+trailing-below n w h some = rw (trailing-least n w) (least-found n (bit w) (rw (any-bit n w h, ne-eqb w 0 some)) .0)

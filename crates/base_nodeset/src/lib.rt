@@ -1,7 +1,7 @@
 // A set of node numbers 0..127, as two words of bits, by value.
 ghost use mathlib.Core.Path.{_≡_};
 ghost use mathlib.Core.Bool.{not};
-ghost use Prim.Native.Nat.{_<_};
+ghost use Prim.Native.Nat.{_+_, _<_};
 ghost use Rattle.base_finite.specs.Below.{any, count, least};
 ghost use Rattle.base_nodeset.specs.Set.{mem, Empty, Only, OfByte, Inserted, Removed, Union, Intersection, Difference, Pops};
 
@@ -122,12 +122,38 @@ impl NodeSet {
         }
     }
 
+    // The set without k, which is of the low word.
+    fn without_low(self, k: usize) -> NodeSet
+        requires { ⌜ k < 64 ⌝ }
+        ensures { λ r. ⌜ Removed self k r ⌝ }
+    {
+        NodeSet {
+            low: self.low ^ (self.low & (1 << k)),
+            high: self.high,
+        }
+    }
+
+    // The set without 64 + k, which is of the high word.
+    fn without_high(self, k: usize) -> NodeSet
+        requires { ⌜ k < 64 ⌝ }
+        ensures { λ r. ⌜ Removed self (64 + k) r ⌝ }
+    {
+        NodeSet {
+            low: self.low,
+            high: self.high ^ (self.high & (1 << k)),
+        }
+    }
+
+    // Only the word that has the member changes.
     pub fn pop(self) -> Popped
         ensures { λ r. ⌜ Pops self r ⌝ }
     {
-        let k = self.lowest();
-        if k < 128 {
-            Popped::Member(k, self.without(k))
+        if self.low != 0 {
+            let k = u64::trailing_zeros(self.low) as usize;
+            Popped::Member(k, self.without_low(k))
+        } else if self.high != 0 {
+            let k = u64::trailing_zeros(self.high) as usize;
+            Popped::Member(64 + k, self.without_high(k))
         } else {
             Popped::None
         }

@@ -14,9 +14,10 @@ use Rattle.base_nodeset.specs.declared.NodeSet.{NodeSet}
 use Rattle.base_nodeset.proofs.Members.{difference-out}
 use Rattle.graph.specs.Graph.{Graph, Descent}
 use Rattle.theory_forest.proofs.Closure.{path-trans}
-use Rattle.base_tables.specs.Rows.{inRow, IsRow, Rows, Closed, Tops}
+use Rattle.base_tables.specs.Rows.{IsRow, Closed, Tops}
+use Rattle.base_tables.specs.Sets.{inRow, Rows}
 
-pub descent-closed : (g : Graph) {low high : List ℕ} → Rows (Descent g) low high → Closed (inRow low high)
+pub descent-closed : (g : Graph) {words : List ℕ} → Rows (Descent g) words → Closed (inRow words)
 descent-closed g rows u v w p q = rows .row-is u w .1 (path-trans (rows .row-is u v .0 p) (rows .row-is v w .0 q))
 
 pub record TopsSo (rows : ℕ → ℕ → Bool) (set top left : NodeSet) : Type 0 where

@@ -11,7 +11,6 @@ use Rattle.base_finite.proofs.Laws.{by-bool, and-both}
 use Rattle.base_nodeset.specs.Set.{mem, Difference}
 use Rattle.base_nodeset.specs.declared.NodeSet.{NodeSet}
 use Rattle.graph.specs.Graph.{Graph, entered, left, parent, top, root, leaf, own, none}
-use Rattle.graph.specs.Order.{adding}
 use Rattle.theory_edges.proofs.Edges.{parent-among}
 use Rattle.theory_forest.specs.Shape.{Shaped}
 use Rattle.theory_edges.specs.Edges.{Within}
@@ -27,15 +26,14 @@ tree-of t = record { nodes = t .nodes; parent-is = t .holds .parent-is }
 pub tables-parents : {g : Graph} {n : ℕ} {parents low high : List ℕ} {edges : ℕ} → Tables g n parents low high edges → Parents n parents
 tables-parents t = rw (t .nodes) (parents-held _ _ _ _ _ _ _ (t .well-formed .few-nodes) (t .holds))
 
--- the trees are as before when an edge is added
-pub tree-adding : (g : Graph) (n : ℕ) (parents : List ℕ) (l r : ℕ) → TreeOf g n parents → TreeOf (adding g l r) n parents
-unfolding adding
-tree-adding g n parents l r t = record { nodes = t .nodes; parent-is = t .parent-is }
-
 pub roots-within : (n : ℕ) (parents : List ℕ) (roots : NodeSet) → RootSet n parents roots → (v : ℕ) → mem roots v ≡ true → v < n
 unfolding nodeIn
 roots-within n parents roots is v m =
     ltb-true v n (and-both (ltb v n) (eqb (getD parents v 0) none) (sym (is v) ∙ m) .0)
+
+pub leaves-within : (n : ℕ) (all inner r : NodeSet) → ((v : ℕ) → mem all v ≡ ltb v n) → Difference all inner r → (v : ℕ) → mem r v ≡ true → v < n
+leaves-within n all inner r is-all is v m =
+    ltb-true v n (sym (is-all v) ∙ and-both (mem all v) (not (mem inner v)) (sym (is v) ∙ m) .0)
 
 module _ {g : Graph} (s : Shaped g) {n : ℕ} {parents : List ℕ} (t : TreeOf g n parents) where
   pub few : n ≤ 128

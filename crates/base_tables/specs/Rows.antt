@@ -1,4 +1,4 @@
--- Tables that code works on, and what they hold. A table of rows has 128 sets of nodes, two words each, in two lists.
+-- A sheet's table of sets, 128 of them, two words each, in two lists; and what is said of any rows.
 use Prim.Native.Nat.{ℕ}
 use mathlib.Core.Path.{_≡_}
 use mathlib.Core.List.{List}
@@ -26,12 +26,6 @@ pub record RowPut (i : ℕ) (s : NodeSet) (low high low′ high′ : List ℕ) :
   pub low-long : length low′ ≡ length low
   pub high-long : length high′ ≡ length high
   pub row-is : (u v : ℕ) → inRow low′ high′ u v ≡ cond (eqb u i) (mem s v) (inRow low high u v)
-
--- the rows hold the relation R
-pub record Rows (R : ℕ → ℕ → Type 0) (low high : List ℕ) : Type 0 where
-  pub low-long : length low ≡ 128
-  pub high-long : length high ≡ 128
-  pub row-is : (u v : ℕ) → (inRow low high u v ≡ true) ↔ R u v
 
 -- a row has with v all that row v has
 abbrev pub Closed : (ℕ → ℕ → Bool) → Type 0

@@ -3,13 +3,15 @@
 use Prim.Native.Nat.{ℕ, zero, suc, _≤_, _<_}
 use mathlib.Core.Path.{_≡_}
 use mathlib.Core.List.{List}
-use mathlib.Core.Bool.{Bool, cond, _&&_, _||_}
+use mathlib.Core.Bool.{Bool, true, cond, _&&_, _||_}
 use lib.Dec.{eqb, ltb}
 use lib.ListN.{length, getD}
 use Rattle.base_finite.specs.Below.{any}
 use Rattle.base_nodeset.specs.Set.{mem}
 use Rattle.base_nodeset.specs.declared.NodeSet.{NodeSet}
-use Rattle.graph.specs.Graph.{Graph, parent, none}
+use Rattle.graph.specs.Graph.{Graph, parent, none, leaf, root, own}
+use Rattle.theory_forest.specs.Shape.{Shaped}
+use Rattle.base_tables.specs.declared.trees.Trees.{Trees}
 
 -- A table of parents of n nodes: each is a node or `none`.
 pub record Parents (n : ℕ) (parents : List ℕ) : Type 0 where
@@ -64,3 +66,29 @@ NodesWith n table x r = (v : ℕ) → mem r v ≡ nodeIn n table x v
 
 abbrev pub RootSet : ℕ → List ℕ → NodeSet → Type 0
 RootSet n parents r = NodesWith n parents none r
+
+-- What a solver is told of the trees: the sets of leaves and of roots, and the root of each node.
+
+-- the sets are of nodes
+pub record Bounded (t : Trees) : Type 0 where
+  pub few : t .n ≤ 128
+  pub leaves-within : (v : ℕ) → mem (t .leaves) v ≡ true → v < t .n
+  pub roots-within : (v : ℕ) → mem (t .roots) v ≡ true → v < t .n
+
+-- the leaves and the roots of g
+pub record TreesOf (g : Graph) (t : Trees) : Type 0 where
+  pub nodes : t .n ≡ g .nodes
+  pub leaves-are : (v : ℕ) → mem (t .leaves) v ≡ leaf g v
+  pub roots-are : (v : ℕ) → mem (t .roots) v ≡ root g v
+
+-- a table that gives each node a node
+pub record Owners (t : Trees) (owners : List ℕ) : Type 0 where
+  pub bounded : Bounded t
+  pub long : t .n ≤ length owners
+  pub within : (v : ℕ) → v < t .n → getD owners v 0 < t .n
+
+-- the trees of g, whatever its dominance edges
+pub record Fits (g : Graph) (t : Trees) (owners : List ℕ) : Type 0 where
+  pub shaped : Shaped g
+  pub trees : TreesOf g t
+  pub owners-are : (v : ℕ) → v < t .n → getD owners v 0 ≡ own g v

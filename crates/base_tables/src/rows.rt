@@ -1,4 +1,4 @@
-// Tables of rows that hold a relation on the nodes.
+// A sheet's table of sets, in two slices: set i is the words at i of both.
 use base_nodeset::NodeSet;
 use base_nodeset::Popped;
 ghost use mathlib.Core.Path.{_≡_};
@@ -6,7 +6,7 @@ ghost use mathlib.Core.Bool.{cond};
 ghost use Prim.Native.Nat.{ℕ, _≤_, _<_};
 ghost use lib.Dec.{ltb};
 ghost use lib.ListN.{length, getD};
-ghost use Rattle.base_tables.specs.Rows.{Long, inRow, IsRow, RowPut, Tops};
+ghost use Rattle.base_tables.specs.Rows.{Long, inRow, IsRow, RowPut};
 
 // The set at i, in tables of any length.
 pub fn set_at(low: &[u64], high: &[u64], i: usize) -> NodeSet
@@ -34,24 +34,6 @@ pub fn in_row(low: &[u64], high: &[u64], u: usize, v: usize) -> bool
     ensures { λ r. ⌜ r ≡ inRow (now (low .entry)) (now (high .entry)) u v ⌝ }
 {
     set_at(low, high, u).has(v)
-}
-
-// The members of the set that are in no member's row. In closed rows a member that is in a row already read has nothing
-// new in its own, and is passed over.
-pub fn tops(low: &[u64], high: &[u64], set: NodeSet) -> NodeSet
-    requires { ⌜ Long (now low) (now high) ⌝ }
-    ensures { λ r. ⌜ Tops (inRow (now (low .entry)) (now (high .entry))) set r ⌝ }
-{
-    let mut top = set;
-    let mut left = set;
-    loop {
-        let Popped::Member(x, rest) = left.pop() else {
-            return top;
-        };
-        let under = set_at(low, high, x);
-        top = top.difference(under);
-        left = rest.difference(under);
-    }
 }
 
 // The first k words over those of another list.

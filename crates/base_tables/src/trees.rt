@@ -2,13 +2,21 @@
 use base_nodeset::NodeSet;
 use graph::NONE;
 ghost use mathlib.Core.Path.{_≡_};
+ghost use mathlib.Core.Bool.{true};
 ghost use Prim.Native.Nat.{ℕ, _≤_, _<_};
 ghost use lib.Dec.{ltb};
 ghost use lib.ListN.{length};
 ghost use Rattle.base_nodeset.specs.Set.{mem};
 ghost use Rattle.graph.specs.Graph.{Graph, leaf};
 ghost use Rattle.theory_forest.specs.Shape.{Shaped};
-ghost use Rattle.base_tables.specs.Trees.{Parents, InnerSet, RootSet, NodesWith, WithParent, WithNode, TreeOf, topIn, Filled, tiedIn};
+ghost use Rattle.base_tables.specs.Trees.{Parents, InnerSet, RootSet, NodesWith, WithParent, WithNode, TreeOf, topIn, Filled, tiedIn, Bounded, TreesOf};
+
+// How many nodes there are, which are leaves and which are roots.
+pub struct Trees {
+    pub n: usize,
+    pub leaves: NodeSet,
+    pub roots: NodeSet,
+}
 
 // The root of v's fragment: up to a node without a parent.
 pub fn own(parent: &[u8], n: usize, v: usize) -> usize
@@ -112,7 +120,20 @@ fn numbers(n: usize) -> NodeSet
 
 pub fn leaf_nodes(parent: &[u8], n: usize) -> NodeSet
     requires { ⌜ Parents n (now parent) ⌝ }
+    ensures { λ r. ⌜ ((v : ℕ) → mem r v ≡ true → v < n) ⌝ }
     ensures { λ r. ⌜ ((g : Graph) → Shaped g → TreeOf g n (now (parent .entry)) → (v : ℕ) → mem r v ≡ leaf g v) ⌝ }
 {
     numbers(n).difference(inner_nodes(parent, n))
+}
+
+pub fn read_trees(parent: &[u8], n: usize) -> Trees
+    requires { ⌜ Parents n (now parent) ⌝ }
+    ensures { λ r. ⌜ Bounded r × (r .n ≡ n) ⌝ }
+    ensures { λ r. ⌜ ((g : Graph) → Shaped g → TreeOf g n (now (parent .entry)) → TreesOf g r) ⌝ }
+{
+    Trees {
+        n,
+        leaves: leaf_nodes(parent, n),
+        roots: root_nodes(parent, n),
+    }
 }

@@ -6,14 +6,14 @@ use mathlib.Core.List.{List}
 use mathlib.Core.Bool.{Bool, true, false, true≢false}
 use mathlib.Core.Logic.{⊎-elim, _↔_}
 use native.Mathlib.Omega.{arith}
-use Rattle.base_nodeset.specs.declared.NodeSet.{NodeSet}
+use lib.ListN.{length}
 use Rattle.graph.specs.Graph.{Graph, own}
 use Rattle.graph.specs.Order.{Choice, adding}
 use Rattle.graph.specs.Placing.{Below, SolvedForm, Reading}
 use Rattle.theory_forest.specs.Shape.{Shaped}
 use Rattle.theory_forest.proofs.Shape.{adding-shaped}
 use Rattle.theory_forest.proofs.Forests.{below-adding, solved-adding}
-use Rattle.theory_forest.proofs.Fragments.{root-adding}
+use Rattle.theory_forest.proofs.Fragments.{root-adding, leaf-adding}
 use Rattle.theory_list.specs.Choosing.{Unforked, pairs}
 use Rattle.theory_list.proofs.Choosing.{pairs-le, choice-splits, first-grows, second-grows}
 use Rattle.theory_list.specs.Settled.{settled}
@@ -22,21 +22,22 @@ use Rattle.theory_list.specs.Keeping.{Fresh}
 use Rattle.theory_list.proofs.Keeping.{first-fresh, second-fresh}
 use Rattle.theory_list.specs.Guided.{Leads, arrived, to-first, to-second}
 use Rattle.theory_list.proofs.Guided.{solved-loopless, leads-solved, leads-within, leads-reading}
-use Rattle.base_tables.specs.Rows.{inRow, Rows}
+use Rattle.base_tables.specs.Sets.{inRow, Rows}
+use Rattle.base_tables.specs.Trees.{TreeOf, Filled, Bounded, TreesOf, Owners, Fits}
+use Rattle.base_tables.specs.declared.trees.Trees.{Trees}
+use Rattle.base_tables.proofs.TreeLaws.{own-is}
 use Rattle.solve_closure.proofs.Laws.{rows-map}
-use Rattle.base_tables.specs.Trees.{TreeOf}
-use Rattle.solve_reduce.specs.Reduced.{Ends, RootsAre, Reduced}
-use Rattle.base_tables.proofs.TreeLaws.{tree-adding}
-use Rattle.check_placing.specs.Guide.{Into, HalfOf, Standing, Arrived}
+use Rattle.solve_reduce.specs.Reduced.{Reduced}
+use Rattle.check_placing.specs.Guide.{Owned, Into, HalfOf, Standing, Arrived}
 use Rattle.check_placing.specs.declared.guide.Edge.{Edge}
 
 -- the half that p is in
 
-module _ (g : Graph) (p : List ℕ) {low high : List ℕ} (rows : Rows (Below g p) low high) (a b over : ℕ) (is : over ≡ own g b) where
-  pub first-half : inRow low high a over ≡ true → Into g p a b a over
+module _ (g : Graph) (p : List ℕ) {under : List ℕ} (rows : Rows (Below g p) under) (a b over : ℕ) (is : over ≡ own g b) where
+  pub first-half : inRow under a over ≡ true → Into g p a b a over
   first-half t = (refl, is, rows .row-is a over .0 t)
 
-  pub second-half : Shaped g → {v : ℕ} → Choice g v a b → SolvedForm g p → inRow low high a over ≡ false → (up : ℕ) → up ≡ own g a → Into g p b a b up
+  pub second-half : Shaped g → {v : ℕ} → Choice g v a b → SolvedForm g p → inRow under a over ≡ false → (up : ℕ) → up ≡ own g a → Into g p b a b up
   second-half s c f t up e = (
     refl,
     e,
@@ -48,41 +49,51 @@ module _ (g : Graph) (p : List ℕ) {low high : List ℕ} (rows : Rows (Below g 
 
 -- one choice
 
--- the nodes and the roots stay
-roots-adding : (g : Graph) (n : ℕ) (roots : NodeSet) (l r : ℕ) → RootsAre g n roots → RootsAre (adding g l r) n roots
-unfolding adding
-roots-adding g n roots l r e = record { nodes = e .nodes; are = λ v. e .are v ∙ sym (root-adding g l r v) }
+pub owned : {t : Trees} {owners : List ℕ} → Owners t owners → (v : ℕ) → v < t .n → Owned owners v
+owned o v h = (omega (arith, o .bounded .few), omega (arith, o .long), omega (arith, o .within v h, o .bounded .few))
 
-module _ {g : Graph} {p : List ℕ} {n : ℕ} {parents : List ℕ} {roots : NodeSet} {under-low under-high : List ℕ} {k : ℕ} {low high : List ℕ}
-    (st : Standing g p n parents roots under-low under-high k low high) where
-  onward : (l r : ℕ) {low′ high′ : List ℕ} → Fresh (st .graph) l r → Below (st .graph) p l r → pairs (st .graph) < pairs (adding (st .graph) l r)
+-- the trees stay
+fits-adding : {g : Graph} {t : Trees} {owners : List ℕ} (l r : ℕ) → Shaped (adding g l r) → Fits g t owners → Fits (adding g l r) t owners
+unfolding adding own
+fits-adding {g} l r s f =
+    record {
+      shaped = s;
+      trees = record {
+        nodes = f .trees .nodes;
+        leaves-are = λ v. f .trees .leaves-are v ∙ sym (leaf-adding g l r v);
+        roots-are = λ v. f .trees .roots-are v ∙ sym (root-adding g l r v);
+      };
+      owners-are = f .owners-are;
+    }
+
+module _ {g : Graph} {p : List ℕ} {t : Trees} {owners under : List ℕ} {k : ℕ} {sets : List ℕ} (st : Standing g p t owners under k sets) where
+  onward : (l r : ℕ) {sets′ : List ℕ} → Fresh (st .graph) l r → Below (st .graph) p l r → pairs (st .graph) < pairs (adding (st .graph) l r)
       → ((q : List ℕ) → Leads (adding (st .graph) l r) p q → Leads (st .graph) p q)
-      → ((h : Graph) → Shaped h → RootsAre h n roots → Fresh h l r → Reduced h n low high → Reduced (adding h l r) n low′ high′)
-      → Standing g p n parents roots under-low under-high (k - 1) low′ high′
+      → ((h : Graph) → Shaped h → TreesOf h t → Fresh h l r → Reduced h (t .n) sets → Reduced (adding h l r) (t .n) sets′)
+      → Standing g p t owners under (k - 1) sets′
   onward l r new d grown way added =
       let h : Graph = st .graph in
       let s : Shaped h = st .given .shaped in
       let f : SolvedForm (adding h l r) p = solved-adding h l r p .1 (st .solved, d) in
-      let are : RootsAre (adding h l r) n roots = roots-adding h n roots l r (st .roots-are) in
+      let fits : Fits (adding h l r) t owners = fits-adding l r (adding-shaped h l r s (new .from-leaf) (new .to-root)) (st .fits) in
       record {
         graph = adding h l r;
         given = record {
-          shaped = adding-shaped h l r s (new .from-leaf) (new .to-root);
+          shaped = fits .shaped;
           loopless = solved-loopless f;
-          nodes = are .nodes;
-          reduced = added h s (st .roots-are) new (st .given .reduced);
+          nodes = fits .trees .nodes;
+          reduced = added h s (st .fits .trees) new (st .given .reduced);
         };
-        roots-are = are;
-        tree = tree-adding h n parents l r (st .tree);
+        fits = fits;
         solved = f;
-        under = rows-map (λ u v. let b = below-adding h l r p u v in (b .1, b .0)) (st .under);
+        under-is = rows-map (λ u v. let b = below-adding h l r p u v in (b .1, b .0)) (st .under-is);
         leads = λ q y. st .leads q (way q y);
         enough = omega (arith, st .enough);
       }
 
-  pub turned : (v a b : ℕ) (e : Edge) {low′ high′ : List ℕ} → Choice (st .graph) v a b → HalfOf (st .graph) p a b e
-      → ((h : Graph) → Shaped h → RootsAre h n roots → Fresh h (e .leaf) (e .root) → Reduced h n low high → Reduced (adding h (e .leaf) (e .root)) n low′ high′)
-      → Standing g p n parents roots under-low under-high (k - 1) low′ high′
+  pub turned : (v a b : ℕ) (e : Edge) {sets′ : List ℕ} → Choice (st .graph) v a b → HalfOf (st .graph) p a b e
+      → ((h : Graph) → Shaped h → TreesOf h t → Fresh h (e .leaf) (e .root) → Reduced h (t .n) sets → Reduced (adding h (e .leaf) (e .root)) (t .n) sets′)
+      → Standing g p t owners under (k - 1) sets′
   turned v a b e c half added =
       let h : Graph = st .graph in
       let s : Shaped h = st .given .shaped in
@@ -101,7 +112,7 @@ module _ {g : Graph} {p : List ℕ} {n : ℕ} {parents : List ℕ} {roots : Node
       (λ q y. to-second v a b c d (subst (λ (m : ℕ). Leads (adding h b m) p q) (i .1) (subst (λ (m : ℕ). Leads (adding h m r) p q) (i .0) y))) added)
       half
 
-  pub ended : Unforked (st .graph) → Arrived g p n low high
+  pub ended : Unforked (st .graph) → Arrived g p (t .n) sets
   ended o =
       record {
         graph = st .graph;
@@ -111,7 +122,7 @@ module _ {g : Graph} {p : List ℕ} {n : ℕ} {parents : List ℕ} {roots : Node
 
   pub not-over : k ≤ 0 → ⊥
   not-over h =
-      let most : pairs (st .graph) ≤ n * n = rw (st .tree .nodes) (pairs-le (st .graph)) in
+      let most : pairs (st .graph) ≤ t .n * t .n = rw (st .fits .trees .nodes) (pairs-le (st .graph)) in
       omega (arith, st .enough)
 
 -- the end
@@ -123,7 +134,7 @@ leads-iff {g} {p} {q} x s f = (
   λ r. reading-least g s p q r (leads-solved x s) (leads-within x s f),
 )
 
-pub reads : {g : Graph} {p : List ℕ} {n : ℕ} {low high : List ℕ} (answer : Bool) (x : Arrived g p n low high)
+pub reads : {g : Graph} {p : List ℕ} {n : ℕ} {sets : List ℕ} (answer : Bool) (x : Arrived g p n sets)
     → ((answer ≡ true) ↔ (settled (x .graph) ≡ p)) → Shaped g → SolvedForm g p → (answer ≡ true) ↔ Reading g p
 reads answer x e s f =
     let i = leads-iff (x .leads) s f in
@@ -131,16 +142,23 @@ reads answer x e s f =
 
 -- the start
 
-pub started : (g : Graph) (p : List ℕ) (n : ℕ) (parents : List ℕ) (leaves roots : NodeSet) (under-low under-high low high : List ℕ) → Shaped g → TreeOf g n parents → Ends g n leaves roots
-    → Rows (Below g p) under-low under-high → SolvedForm g p → Reduced g n low high → Standing g p n parents roots under-low under-high (n * n + 1) low high
-started g p n parents leaves roots under-low under-high low high s t e under f form =
+pub owners-here : {t : Trees} {parents old owners : List ℕ} → Bounded t → Filled (t .n) parents old owners (t .n) → t .n ≤ length old → Owners t owners
+owners-here bounded filled long =
+    record { bounded = bounded; long = omega (arith, filled .long); within = filled .within }
+
+pub fits-here : {g : Graph} {t : Trees} {parents old owners : List ℕ} → Shaped g → TreeOf g (t .n) parents → TreesOf g t → Filled (t .n) parents old owners (t .n) → Fits g t owners
+fits-here s tree trees filled =
+    record { shaped = s; trees = trees; owners-are = λ v h. filled .top-is v h ∙ own-is s tree v h }
+
+pub started : {g : Graph} {p : List ℕ} {t : Trees} {owners under sets : List ℕ} → Fits g t owners → Rows (Below g p) under → SolvedForm g p → Reduced g (t .n) sets
+    → Standing g p t owners under (t .n * t .n + 1) sets
+started {g} fits under f form =
     record {
       graph = g;
-      given = record { shaped = s; loopless = solved-loopless f; nodes = e .nodes; reduced = form };
-      roots-are = record { nodes = e .nodes; are = e .roots-are };
-      tree = t;
+      given = record { shaped = fits .shaped; loopless = solved-loopless f; nodes = fits .trees .nodes; reduced = form };
+      fits = fits;
       solved = f;
-      under = under;
+      under-is = under;
       leads = λ q y. y;
       enough = omega arith;
     }

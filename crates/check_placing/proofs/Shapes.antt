@@ -20,10 +20,12 @@ use Rattle.theory_forest.specs.Shape.{Shaped}
 use Rattle.theory_forest.proofs.Shape.{well-formed-shaped}
 use Rattle.theory_forest.proofs.Table.{hangs-parts, below-within}
 use Rattle.theory_forest.proofs.Forests.{acyclic-forest, placing-cases, hanging-solved}
-use Rattle.base_tables.specs.Rows.{inRow, Rows}
+use Rattle.base_tables.specs.Rows.{inRow as inPair}
+use Rattle.base_tables.specs.Sets.{inRow, Rows}
 use Rattle.base_tables.specs.Tables.{Tables}
+use Rattle.base_tables.specs.Trees.{TreesOf}
+use Rattle.base_tables.specs.declared.trees.Trees.{Trees}
 use Rattle.solve_closure.specs.Closing.{Links}
-use Rattle.solve_reduce.specs.Reduced.{Ends}
 use Rattle.check_placing.specs.Tests.{fits, placingIn, outside, downwardIn, carried, again, singleIn}
 
 -- answers of a test that is asked the other way
@@ -49,48 +51,50 @@ takes-same a b n e k h = sym (getD-take n a k 0 h) ∙ ap (λ (l : List ℕ). ge
 
 -- one byte
 
-module _ (n : ℕ) (leaves roots : NodeSet) (v byte : ℕ) where
-  pub fits-none : byte ≡ none → fits n leaves roots v byte ≡ true
+module _ (t : Trees) (v byte : ℕ) where
+  pub fits-none : byte ≡ none → fits t v byte ≡ true
   unfolding fits
   fits-none e = rw (eq-eqb byte none e)
 
-  pub fits-beyond : (byte ≡ none → ⊥) → n ≤ byte → fits n leaves roots v byte ≡ false
+  pub fits-beyond : (byte ≡ none → ⊥) → t .n ≤ byte → fits t v byte ≡ false
   unfolding fits
-  fits-beyond e h = rw (ne-eqb byte none e, le-ltb byte n h)
+  fits-beyond e h = rw (ne-eqb byte none e, le-ltb byte (t .n) h)
 
-  pub fits-node : (byte ≡ none → ⊥) → byte < n → fits n leaves roots v byte ≡ (mem roots v && mem leaves byte)
+  pub fits-node : (byte ≡ none → ⊥) → byte < t .n → fits t v byte ≡ (mem (t .roots) v && mem (t .leaves) byte)
   unfolding fits
-  fits-node e h = rw (ne-eqb byte none e, lt-ltb byte n h)
+  fits-node e h = rw (ne-eqb byte none e, lt-ltb byte (t .n) h)
 
-  pub fits-within : fits n leaves roots v byte ≡ true → (byte ≡ none → ⊥) → byte < n
+  pub fits-within : fits t v byte ≡ true → (byte ≡ none → ⊥) → byte < t .n
   unfolding fits
-  fits-within t e =
+  fits-within fit e =
       ⊎-elim
       (λ (i : eqb byte none ≡ true). absurd (e (eqb-true byte none i)))
-      (λ (i : (ltb byte n && (mem roots v && mem leaves byte)) ≡ true). ltb-true byte n (and-both (ltb byte n) (mem roots v && mem leaves byte) i .0))
-      (or-cases (eqb byte none) (ltb byte n && (mem roots v && mem leaves byte)) t)
+      (λ (i : (ltb byte (t .n) && (mem (t .roots) v && mem (t .leaves) byte)) ≡ true). ltb-true byte (t .n) (and-both (ltb byte (t .n)) (mem (t .roots) v && mem (t .leaves) byte) i .0))
+      (or-cases (eqb byte none) (ltb byte (t .n) && (mem (t .roots) v && mem (t .leaves) byte)) fit)
 
 -- all bytes
 
-pub placing-links : (n : ℕ) (leaves roots : NodeSet) (bytes : List ℕ) → n ≤ length bytes → placingIn n leaves roots bytes ≡ true → Links n bytes
-unfolding placingIn
-placing-links n leaves roots bytes long t =
-    record {
-      long = long;
-      node-or-none = λ v h. fits-within n leaves roots v (at bytes v) (all-at n (λ v. fits n leaves roots v (at bytes v)) t v h);
-    }
+module _ (t : Trees) (bytes : List ℕ) where
+  pub placing-links : t .n ≤ length bytes → placingIn t bytes ≡ true → Links (t .n) bytes
+  unfolding placingIn
+  placing-links long is =
+      record {
+        long = long;
+        node-or-none = λ v h. fits-within t v (at bytes v) (all-at (t .n) (λ v. fits t v (at bytes v)) is v h);
+      }
 
-pub placing-every : (n : ℕ) (leaves roots : NodeSet) (bytes : List ℕ) → ((v : ℕ) → v < n → fits n leaves roots v (at bytes v) ≡ true) → placingIn n leaves roots bytes ≡ true
-unfolding placingIn
-placing-every n leaves roots bytes f = all-every n (λ v. fits n leaves roots v (at bytes v)) f
+  pub placing-every : ((v : ℕ) → v < t .n → fits t v (at bytes v) ≡ true) → placingIn t bytes ≡ true
+  unfolding placingIn
+  placing-every f = all-every (t .n) (λ v. fits t v (at bytes v)) f
 
-pub placing-fails : (n : ℕ) (leaves roots : NodeSet) (bytes : List ℕ) (v : ℕ) → v < n → fits n leaves roots v (at bytes v) ≡ false → placingIn n leaves roots bytes ≡ false
-unfolding placingIn
-placing-fails n leaves roots bytes v h e = all-fails n (λ v. fits n leaves roots v (at bytes v)) v h e
+  pub placing-fails : (v : ℕ) → v < t .n → fits t v (at bytes v) ≡ false → placingIn t bytes ≡ false
+  unfolding placingIn
+  placing-fails v h e = all-fails (t .n) (λ v. fits t v (at bytes v)) v h e
 
-pub placing-is : (g : Graph) (n : ℕ) (leaves roots : NodeSet) (bytes : List ℕ) → Ends g n leaves roots → n ≤ length bytes → placingIn n leaves roots bytes ≡ placing g (take n bytes)
+pub placing-is : (g : Graph) (t : Trees) (bytes : List ℕ) → TreesOf g t → t .n ≤ length bytes → placingIn t bytes ≡ placing g (take (t .n) bytes)
 unfolding placingIn placing fits
-placing-is g n leaves roots bytes e long =
+placing-is g t bytes e long =
+    let n : ℕ = t .n in
     let same : length (take n bytes) ≡ g .nodes = omega (arith, length-take n bytes, e .nodes) in
     let test : ℕ → Bool = λ v. eqb (at (take n bytes) v) none || root g v && leaf g (at (take n bytes) v) in
     rw (eq-eqb (length (take n bytes)) (g .nodes) same)
@@ -100,73 +104,73 @@ placing-is g n leaves roots bytes e long =
     (ap (λ (b : Bool). eqb x none || b) (node v x)))
     ∙ ap (λ (m : ℕ). all m test) (e .nodes))
   where
-    node : (v x : ℕ) → (ltb x n && (root g v && leaf g x)) ≡ (root g v && leaf g x)
+    node : (v x : ℕ) → (ltb x (t .n) && (root g v && leaf g x)) ≡ (root g v && leaf g x)
     node v x =
-        by-bool (ltb x n)
-        (λ (t : ltb x n ≡ true). rw t)
-        (λ (t : ltb x n ≡ false).
-        let none-there : leaf g x ≡ false = not-holding (leaf g x) (λ l. omega (arith, leaf-below g x l, e .nodes, ltb-false x n t)) in
-        rw (t, none-there, and-false (root g v)))
+        by-bool (ltb x (t .n))
+        (λ (i : ltb x (t .n) ≡ true). rw i)
+        (λ (i : ltb x (t .n) ≡ false).
+        let none-there : leaf g x ≡ false = not-holding (leaf g x) (λ l. omega (arith, leaf-below g x l, e .nodes, ltb-false x (t .n) i)) in
+        rw (i, none-there, and-false (root g v)))
 
 -- solved forms
 
-pub downward-every : (n : ℕ) (heads-low heads-high low high : List ℕ) → ((l : ℕ) → l < n → any 128 (outside heads-low heads-high low high l) ≡ false) → downwardIn n heads-low heads-high low high ≡ true
+pub downward-every : (n : ℕ) (heads-low heads-high rows : List ℕ) → ((l : ℕ) → l < n → any 128 (outside heads-low heads-high rows l) ≡ false) → downwardIn n heads-low heads-high rows ≡ true
 unfolding downwardIn
-downward-every n heads-low heads-high low high f = all-every n (λ l. not (any 128 (outside heads-low heads-high low high l))) (λ l h. rw (f l h))
+downward-every n heads-low heads-high rows f = all-every n (λ l. not (any 128 (outside heads-low heads-high rows l))) (λ l h. rw (f l h))
 
-pub downward-fails : (n : ℕ) (heads-low heads-high low high : List ℕ) (l : ℕ) → l < n → any 128 (outside heads-low heads-high low high l) ≡ true → downwardIn n heads-low heads-high low high ≡ false
+pub downward-fails : (n : ℕ) (heads-low heads-high rows : List ℕ) (l : ℕ) → l < n → any 128 (outside heads-low heads-high rows l) ≡ true → downwardIn n heads-low heads-high rows ≡ false
 unfolding downwardIn
-downward-fails n heads-low heads-high low high l h e = all-fails n (λ l. not (any 128 (outside heads-low heads-high low high l))) l h (rw e)
+downward-fails n heads-low heads-high rows l h e = all-fails n (λ l. not (any 128 (outside heads-low heads-high rows l))) l h (rw e)
 
-module _ (g : Graph) (n : ℕ) (parents heads-low heads-high low high : List ℕ) (edges : ℕ) (t : Tables g n parents heads-low heads-high edges) where
+module _ (g : Graph) (n : ℕ) (parents heads-low heads-high rows : List ℕ) (edges : ℕ) (t : Tables g n parents heads-low heads-high edges) where
   shaped : Shaped g
   shaped = well-formed-shaped (t .well-formed)
 
-  module _ (p : List ℕ) (rows : Rows (Below g p) low high) where
-    downward-is : (downwardIn n heads-low heads-high low high ≡ true) ↔ ((l r : ℕ) → DominanceEdge g l r → Below g p l r)
+  module _ (p : List ℕ) (are : Rows (Below g p) rows) where
+    downward-is : (downwardIn n heads-low heads-high rows ≡ true) ↔ ((l r : ℕ) → DominanceEdge g l r → Below g p l r)
     unfolding downwardIn
     downward-is = (
       λ e l r d.
           let b = t .holds .dominance-within l r d in
           let few = t .well-formed .few-nodes in
-          let none-out : any 128 (outside heads-low heads-high low high l) ≡ false = not-true (any 128 (outside heads-low heads-high low high l)) (all-at n (λ l. not (any 128 (outside heads-low heads-high low high l))) e l (omega (arith, b .0, t .nodes))) in
-          let in-heads : inRow heads-low heads-high l r ≡ true = t .holds .heads-are l r ∙ d in
-          by-bool (inRow low high l r)
-          (λ (i : inRow low high l r ≡ true). rows .row-is l r .0 i)
-          (λ (i : inRow low high l r ≡ false).
-          let out : outside heads-low heads-high low high l r ≡ true = rw (in-heads, i) refl in
-          absurd (true≢false (sym out ∙ any-false 128 (outside heads-low heads-high low high l) none-out r (omega (arith, b .1))))),
+          let none-out : any 128 (outside heads-low heads-high rows l) ≡ false = not-true (any 128 (outside heads-low heads-high rows l)) (all-at n (λ l. not (any 128 (outside heads-low heads-high rows l))) e l (omega (arith, b .0, t .nodes))) in
+          let in-heads : inPair heads-low heads-high l r ≡ true = t .holds .heads-are l r ∙ d in
+          by-bool (inRow rows l r)
+          (λ (i : inRow rows l r ≡ true). are .row-is l r .0 i)
+          (λ (i : inRow rows l r ≡ false).
+          let out : outside heads-low heads-high rows l r ≡ true = rw (in-heads, i) refl in
+          absurd (true≢false (sym out ∙ any-false 128 (outside heads-low heads-high rows l) none-out r (omega (arith, b .1))))),
       λ down.
           all-every n _ (λ l h.
-          by-bool (any 128 (outside heads-low heads-high low high l))
-          (λ (i : any 128 (outside heads-low heads-high low high l) ≡ true).
-          let x = any-found 128 (outside heads-low heads-high low high l) i in
-          let b = and-both (inRow heads-low heads-high l (x .0)) (not (inRow low high l (x .0))) (x .2) in
-          let under : inRow low high l (x .0) ≡ true = rows .row-is l (x .0) .1 (down l (x .0) (sym (t .holds .heads-are l (x .0)) ∙ b .0)) in
+          by-bool (any 128 (outside heads-low heads-high rows l))
+          (λ (i : any 128 (outside heads-low heads-high rows l) ≡ true).
+          let x = any-found 128 (outside heads-low heads-high rows l) i in
+          let b = and-both (inPair heads-low heads-high l (x .0)) (not (inRow rows l (x .0))) (x .2) in
+          let under : inRow rows l (x .0) ≡ true = are .row-is l (x .0) .1 (down l (x .0) (sym (t .holds .heads-are l (x .0)) ∙ b .0)) in
           absurd (true≢false (sym (b .1) ∙ ap not under)))
-          (λ (i : any 128 (outside heads-low heads-high low high l) ≡ false). rw i)),
+          (λ (i : any 128 (outside heads-low heads-high rows l) ≡ false). rw i)),
     )
 
-    loops-is : (not (any n (λ u. inRow low high u u)) ≡ true) ↔ ((u : ℕ) → Below g p u u → ⊥)
+    loops-is : (not (any n (λ u. inRow rows u u)) ≡ true) ↔ ((u : ℕ) → Below g p u u → ⊥)
     loops-is = (
       λ e u b.
-          let found : any n (λ u. inRow low high u u) ≡ true = any-at n (λ u. inRow low high u u) u (omega (arith, below-within g p shaped b .0, t .nodes)) (rows .row-is u u .1 b) in
+          let found : any n (λ u. inRow rows u u) ≡ true = any-at n (λ u. inRow rows u u) u (omega (arith, below-within g p shaped b .0, t .nodes)) (are .row-is u u .1 b) in
           true≢false (sym e ∙ ap not found),
       λ free.
-          by-bool (any n (λ u. inRow low high u u))
-          (λ (i : any n (λ u. inRow low high u u) ≡ true).
-          let x = any-found n (λ u. inRow low high u u) i in
-          absurd (free (x .0) (rows .row-is (x .0) (x .0) .0 (x .2))))
-          (λ (i : any n (λ u. inRow low high u u) ≡ false). rw i),
+          by-bool (any n (λ u. inRow rows u u))
+          (λ (i : any n (λ u. inRow rows u u) ≡ true).
+          let x = any-found n (λ u. inRow rows u u) i in
+          absurd (free (x .0) (are .row-is (x .0) (x .0) .0 (x .2))))
+          (λ (i : any n (λ u. inRow rows u u) ≡ false). rw i),
     )
 
-    pub solved-is : placing g p ≡ true → ((not (any n (λ u. inRow low high u u)) && downwardIn n heads-low heads-high low high) ≡ true) ↔ SolvedForm g p
+    pub solved-is : placing g p ≡ true → ((not (any n (λ u. inRow rows u u)) && downwardIn n heads-low heads-high rows) ≡ true) ↔ SolvedForm g p
     solved-is is = (
       λ e.
-          let b = and-both (not (any n (λ u. inRow low high u u))) (downwardIn n heads-low heads-high low high) e in
+          let b = and-both (not (any n (λ u. inRow rows u u))) (downwardIn n heads-low heads-high rows) e in
           hanging-solved g p .0 (record { is-placing = is; is-forest = acyclic-forest g p shaped (loops-is .0 (b .0)); downward = downward-is .0 (b .1) }),
       λ f.
-          and-intro (not (any n (λ u. inRow low high u u))) (downwardIn n heads-low heads-high low high)
+          and-intro (not (any n (λ u. inRow rows u u))) (downwardIn n heads-low heads-high rows)
           (loops-is .1 (f .is-forest .no-loop))
           (downward-is .1 (hanging-solved g p .1 f .downward)),
     )

@@ -3,19 +3,25 @@ use Prim.Native.Nat.{ℕ, _+_, _*_, _<_}
 use mathlib.Core.Path.{_≡_}
 use mathlib.Core.List.{List}
 use mathlib.Core.Logic.{_⊎_}
-use Rattle.base_nodeset.specs.declared.NodeSet.{NodeSet}
+use lib.ListN.{length, getD}
 use Rattle.graph.specs.Graph.{Graph, own}
 use Rattle.graph.specs.Placing.{Below, SolvedForm}
 use Rattle.theory_list.specs.Choosing.{pairs}
 use Rattle.theory_list.specs.Guided.{Leads}
 use Rattle.theory_list.specs.Settled.{settled}
-use Rattle.base_tables.specs.Rows.{Rows}
-use Rattle.base_tables.specs.Trees.{TreeOf}
-use Rattle.solve_reduce.specs.Reduced.{RootsAre, LooplessForm}
+use Rattle.base_tables.specs.Sets.{Rows}
+use Rattle.base_tables.specs.Trees.{Fits}
+use Rattle.base_tables.specs.declared.trees.Trees.{Trees}
+use Rattle.solve_reduce.specs.Reduced.{LooplessForm}
 use Rattle.check_placing.specs.declared.guide.Edge.{Edge}
 
-abbrev pub Bounded : ℕ → Edge → Type 0
-Bounded n r = (r .leaf < n) × (r .root < n)
+-- the table gives the node v a node
+abbrev pub Owned : List ℕ → ℕ → Type 0
+Owned owners v = (v < 128) × (v < length owners) × (getD owners v 0 < 128)
+
+-- both ends are nodes
+abbrev pub Within : ℕ → Edge → Type 0
+Within n r = (r .leaf < n) × (r .root < n)
 
 -- the edge (l, r) leads from the choice between a and b into the half that p is in
 abbrev pub Into : Graph → List ℕ → ℕ → ℕ → ℕ → ℕ → Type 0
@@ -26,18 +32,17 @@ HalfOf g p a b e = Into g p a b (e .leaf) (e .root) ⊎ Into g p b a (e .leaf) (
 
 -- From g the choices lead to a graph with this reduced form. With the turns left its descent relation can outgrow all
 -- pairs, so they are enough.
-pub record Standing (g : Graph) (p : List ℕ) (n : ℕ) (parents : List ℕ) (roots : NodeSet) (under-low under-high : List ℕ) (turns : ℕ) (low high : List ℕ) : Type 0 where
+pub record Standing (g : Graph) (p : List ℕ) (t : Trees) (owners under : List ℕ) (turns : ℕ) (sets : List ℕ) : Type 0 where
   pub graph : Graph
-  pub given : LooplessForm graph n low high
-  pub roots-are : RootsAre graph n roots
-  pub tree : TreeOf graph n parents
+  pub given : LooplessForm graph (t .n) sets
+  pub fits : Fits graph t owners
   pub solved : SolvedForm graph p
-  pub under : Rows (Below graph p) under-low under-high
+  pub under-is : Rows (Below graph p) under
   pub leads : (q : List ℕ) → Leads graph p q → Leads g p q
-  pub enough : n * n < turns + pairs graph
+  pub enough : t .n * t .n < turns + pairs graph
 
 -- No choice is left.
-pub record Arrived (g : Graph) (p : List ℕ) (n : ℕ) (low high : List ℕ) : Type 0 where
+pub record Arrived (g : Graph) (p : List ℕ) (n : ℕ) (sets : List ℕ) : Type 0 where
   pub graph : Graph
-  pub given : LooplessForm graph n low high
+  pub given : LooplessForm graph n sets
   pub leads : Leads g p (settled graph)

@@ -5,24 +5,25 @@ use mathlib.Core.Bool.{Bool, not, _&&_, _||_}
 use lib.Dec.{eqb, ltb}
 use Rattle.base_finite.specs.Below.{any, all}
 use Rattle.base_nodeset.specs.Set.{mem}
-use Rattle.base_nodeset.specs.declared.NodeSet.{NodeSet}
 use Rattle.graph.specs.Graph.{none}
 use Rattle.graph.specs.Placing.{at}
-use Rattle.base_tables.specs.Rows.{inRow}
+use Rattle.base_tables.specs.Rows.{inRow as inPair}
+use Rattle.base_tables.specs.Sets.{inRow}
+use Rattle.base_tables.specs.declared.trees.Trees.{Trees}
 
 -- what stands at v in a placing: nothing, or at a root a leaf
-unfoldable pub fits : ℕ → NodeSet → NodeSet → ℕ → ℕ → Bool
-fits n leaves roots v byte = eqb byte none || ltb byte n && (mem roots v && mem leaves byte)
+unfoldable pub fits : Trees → ℕ → ℕ → Bool
+fits t v byte = eqb byte none || ltb byte (t .n) && (mem (t .roots) v && mem (t .leaves) byte)
 
-unfoldable pub placingIn : ℕ → NodeSet → NodeSet → List ℕ → Bool
-placingIn n leaves roots bytes = all n (λ v. fits n leaves roots v (at bytes v))
+unfoldable pub placingIn : Trees → List ℕ → Bool
+placingIn t bytes = all (t .n) (λ v. fits t v (at bytes v))
 
 -- v is in the first table's row l and not in the second's
-abbrev pub outside : List ℕ → List ℕ → List ℕ → List ℕ → ℕ → ℕ → Bool
-outside heads-low heads-high low high l v = inRow heads-low heads-high l v && not (inRow low high l v)
+abbrev pub outside : List ℕ → List ℕ → List ℕ → ℕ → ℕ → Bool
+outside heads-low heads-high rows l v = inPair heads-low heads-high l v && not (inRow rows l v)
 
-unfoldable pub downwardIn : ℕ → List ℕ → List ℕ → List ℕ → List ℕ → Bool
-downwardIn n heads-low heads-high low high = all n (λ l. not (any 128 (outside heads-low heads-high low high l)))
+unfoldable pub downwardIn : ℕ → List ℕ → List ℕ → List ℕ → Bool
+downwardIn n heads-low heads-high rows = all n (λ l. not (any 128 (outside heads-low heads-high rows l)))
 
 -- u hangs under the leaf x
 abbrev pub carried : List ℕ → ℕ → ℕ → Bool

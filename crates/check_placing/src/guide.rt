@@ -1,8 +1,8 @@
 // Is a solved form a reading? From the graph follow at each choice of Rule 3 the half that the solved form is in: it is a
 // reading if the way ends in it.
-use base_nodeset::NodeSet;
-use base_tables::rows::in_row;
-use base_tables::trees::own;
+use base_tables::sets::in_row;
+use base_tables::trees::Trees;
+use base_tables::trees::owners;
 use solve_closure::graph_rows;
 use solve_reduce::choose::Fork;
 use solve_reduce::choose::choose;
@@ -16,17 +16,17 @@ ghost use mathlib.Core.List.{List};
 ghost use mathlib.Core.Logic.{_↔_};
 ghost use Prim.Native.Nat.{ℕ, _-_, _*_, _+_, _≤_, _<_};
 ghost use lib.ListN.{length, take};
-ghost use Rattle.base_nodeset.specs.Set.{mem};
 ghost use Rattle.graph.specs.Graph.{Graph};
 ghost use Rattle.graph.specs.Order.{Choice};
 ghost use Rattle.graph.specs.Placing.{Below, SolvedForm, Reading};
 ghost use Rattle.theory_forest.specs.Shape.{Shaped};
 ghost use Rattle.theory_list.specs.Settled.{settled};
-ghost use Rattle.base_tables.specs.Trees.{Parents, TreeOf};
-ghost use Rattle.base_tables.specs.Rows.{Long, Rows};
+ghost use Rattle.base_tables.specs.Trees.{Parents, Bounded, TreesOf, Owners, Fits};
+ghost use Rattle.base_tables.specs.Rows.{Long as Paired};
+ghost use Rattle.base_tables.specs.Sets.{Long, Rows};
 ghost use Rattle.base_tables.specs.Tables.{Tables};
-ghost use Rattle.solve_reduce.specs.Reduced.{Wide, Ends, LooplessForm};
-ghost use Rattle.check_placing.specs.Guide.{HalfOf, Bounded, Standing, Arrived};
+ghost use Rattle.solve_reduce.specs.Reduced.{Wide, LooplessForm};
+ghost use Rattle.check_placing.specs.Guide.{Owned, Within, HalfOf, Standing, Arrived};
 
 // The edge that leads into a half.
 pub struct Edge {
@@ -35,16 +35,16 @@ pub struct Edge {
 }
 
 // The half of the choice between a and b that the placing is in.
-fn half(parent: &[u8], n: usize, under_low: &[u64], under_high: &[u64], a: usize, b: usize) -> Edge
-    requires { ⌜ Parents n (now parent) × Long (now «under_low») (now «under_high») × (a < n) × (b < n) ⌝ }
-    ensures { λ r. ⌜ Bounded n r ⌝ }
+fn half(owner: &[u8], under: &[u64], a: usize, b: usize) -> Edge
+    requires { ⌜ Owned (now owner) a × Owned (now owner) b × Long (now under) ⌝ }
+    ensures { λ r. ⌜ ((t : Trees) → Owners t (now (owner .entry)) → a < t .n → b < t .n → Within (t .n) r) ⌝ }
     ensures { λ r. ⌜
-        ((g : Graph) (p : List ℕ) (v : ℕ) → Shaped g → TreeOf g n (now (parent .entry)) → Rows (Below g p) (now («under_low» .entry)) (now («under_high» .entry)) →
+        ((g : Graph) (t : Trees) (p : List ℕ) (v : ℕ) → Fits g t (now (owner .entry)) → a < t .n → b < t .n → Rows (Below g p) (now (under .entry)) →
         Choice g v a b → SolvedForm g p → HalfOf g p a b r)
         ⌝ }
 {
-    let over = own(parent, n, b);
-    if in_row(under_low, under_high, a, over) {
+    let over = owner[b] as usize;
+    if in_row(under, a, over) {
         return Edge {
             leaf: a,
             root: over,
@@ -52,34 +52,24 @@ fn half(parent: &[u8], n: usize, under_low: &[u64], under_high: &[u64], a: usize
     }
     Edge {
         leaf: b,
-        root: own(parent, n, a),
+        root: owner[a] as usize,
     }
 }
 
 // One choice taken; no, where none is left.
-fn turn(
-    parent: &[u8],
-    n: usize,
-    roots: NodeSet,
-    under_low: &[u64],
-    under_high: &[u64],
-    low: &mut [u64],
-    high: &mut [u64],
-) -> bool
-    requires { ⌜ Parents n (now parent) × Long (now «under_low») (now «under_high») × Wide (now low) (now high) × ((v : ℕ) → mem roots v ≡ true → v < n) ⌝ }
+fn turn(owner: &[u8], trees: Trees, under: &[u64], sets: &mut [u64]) -> bool
+    requires { ⌜ Owners trees (now owner) × Long (now under) × Wide (now sets) ⌝ }
     ensures { λ r. ⌜
-        ((g : Graph) (p : List ℕ) (k : ℕ) → Standing g p n (now (parent .entry)) roots (now («under_low» .entry)) (now («under_high» .entry)) k (now (low .entry)) (now (high .entry)) →
-        (r ≡ true → Standing g p n (now (parent .entry)) roots (now («under_low» .entry)) (now («under_high» .entry)) (k - 1) (now (low .exit)) (now (high .exit)))
-        × (r ≡ false → Arrived g p n (now (low .exit)) (now (high .exit))))
+        ((g : Graph) (p : List ℕ) (k : ℕ) → Standing g p trees (now (owner .entry)) (now (under .entry)) k (now (sets .entry)) →
+        (r ≡ true → Standing g p trees (now (owner .entry)) (now (under .entry)) (k - 1) (now (sets .exit)))
+        × (r ≡ false → Arrived g p (trees .n) (now (sets .exit))))
         ⌝ }
 {
-    let Fork::At(v, a, b) = choose(low, high, n) else {
+    let Fork::At(v, a, b) = choose(sets, trees.n) else {
         return false;
     };
-    let next = half(parent, n, under_low, under_high, a, b);
-    let leaf = next.leaf;
-    let root = next.root;
-    add(low, high, n, roots, leaf, root);
+    let next = half(owner, under, a, b);
+    add(sets, trees, next.leaf, next.root);
     true
 }
 
@@ -97,40 +87,28 @@ fn same(a: &[u8], b: &[u8], n: usize) -> bool
 }
 
 // Where no choice is left: the placing is the one that is reached.
-fn settles(low: &[u64], high: &[u64], n: usize, placing: &[u8]) -> bool
-    requires { ⌜ Wide (now low) (now high) × (n ≤ 128) × (n ≤ length (now placing)) ⌝ }
-    ensures { λ r. ⌜
-        ((h : Graph) → LooplessForm h n (now (low .entry)) (now (high .entry)) →
-        (r ≡ true) ↔ (settled h ≡ take n (now (placing .entry))))
-        ⌝ }
+fn settles(sets: &[u64], n: usize, placing: &[u8]) -> bool
+    requires { ⌜ Wide (now sets) × (n ≤ 128) × (n ≤ length (now placing)) ⌝ }
+    ensures { λ r. ⌜ ((h : Graph) → LooplessForm h n (now (sets .entry)) → (r ≡ true) ↔ (settled h ≡ take n (now (placing .entry)))) ⌝ }
 {
     let mut end = [0u8; 128];
-    settle(low, high, n, &mut end);
+    settle(sets, n, &mut end);
     same(&end, placing, n)
 }
 
 // From the reduced form of a graph to the end. Each choice adds a pair to the descent relation, so that n * n are enough.
-fn follow(
-    parent: &[u8],
-    n: usize,
-    roots: NodeSet,
-    under_low: &[u64],
-    under_high: &[u64],
-    placing: &[u8],
-    low: &mut [u64],
-    high: &mut [u64],
-) -> bool
-    requires { ⌜ Parents n (now parent) × Long (now «under_low») (now «under_high») × Wide (now low) (now high) ⌝ }
-    requires { ⌜ (n ≤ length (now placing)) × ((v : ℕ) → mem roots v ≡ true → v < n) ⌝ }
+fn follow(owner: &[u8], trees: Trees, under: &[u64], placing: &[u8], sets: &mut [u64]) -> bool
+    requires { ⌜ Owners trees (now owner) × Long (now under) × (trees .n ≤ length (now placing)) × Wide (now sets) ⌝ }
     ensures { λ r. ⌜
-        ((g : Graph) → Standing g (take n (now (placing .entry))) n (now (parent .entry)) roots (now («under_low» .entry)) (now («under_high» .entry)) (n * n + 1) (now (low .entry)) (now (high .entry)) →
-        Shaped g → SolvedForm g (take n (now (placing .entry))) → (r ≡ true) ↔ Reading g (take n (now (placing .entry))))
+        ((g : Graph) → Standing g (take (trees .n) (now (placing .entry))) trees (now (owner .entry)) (now (under .entry)) (trees .n * trees .n + 1) (now (sets .entry)) →
+        Shaped g → SolvedForm g (take (trees .n) (now (placing .entry))) → (r ≡ true) ↔ Reading g (take (trees .n) (now (placing .entry))))
         ⌝ }
 {
+    let n = trees.n;
     let mut left = n * n + 1;
     while 0 < left {
-        if !turn(parent, n, roots, under_low, under_high, low, high) {
-            return settles(low, high, n, placing);
+        if !turn(owner, trees, under, sets) {
+            return settles(sets, n, placing);
         }
         left -= 1;
     }
@@ -142,42 +120,24 @@ pub fn reading(
     parent: &[u8],
     heads_low: &[u64],
     heads_high: &[u64],
-    n: usize,
-    leaves: NodeSet,
-    roots: NodeSet,
-    under_low: &[u64],
-    under_high: &[u64],
+    trees: Trees,
+    under: &[u64],
     placing: &[u8],
 ) -> bool
-    requires { ⌜ Parents n (now parent) × Long (now «heads_low») (now «heads_high») × Long (now «under_low») (now «under_high») ⌝ }
-    requires { ⌜ (n ≤ length (now placing)) × ((v : ℕ) → mem roots v ≡ true → v < n) ⌝ }
+    requires { ⌜ Parents (trees .n) (now parent) × Paired (now «heads_low») (now «heads_high») × Bounded trees ⌝ }
+    requires { ⌜ Long (now under) × (trees .n ≤ length (now placing)) ⌝ }
     ensures { λ r. ⌜
-        ((g : Graph) (edges : ℕ) → Tables g n (now (parent .entry)) (now («heads_low» .entry)) (now («heads_high» .entry)) edges →
-        Ends g n leaves roots → Rows (Below g (take n (now (placing .entry)))) (now («under_low» .entry)) (now («under_high» .entry)) →
-        SolvedForm g (take n (now (placing .entry))) → (r ≡ true) ↔ Reading g (take n (now (placing .entry))))
+        ((g : Graph) (edges : ℕ) → Tables g (trees .n) (now (parent .entry)) (now («heads_low» .entry)) (now («heads_high» .entry)) edges →
+        TreesOf g trees → Rows (Below g (take (trees .n) (now (placing .entry)))) (now (under .entry)) →
+        SolvedForm g (take (trees .n) (now (placing .entry))) → (r ≡ true) ↔ Reading g (take (trees .n) (now (placing .entry))))
         ⌝ }
 {
-    let mut base_low = [0u64; 128];
-    let mut base_high = [0u64; 128];
-    graph_rows(
-        parent,
-        heads_low,
-        heads_high,
-        n,
-        &mut base_low,
-        &mut base_high,
-    );
-    let mut low = [0u64; WIDE];
-    let mut high = [0u64; WIDE];
-    reduce(&base_low, &base_high, n, leaves, roots, &mut low, &mut high);
-    follow(
-        parent,
-        n,
-        roots,
-        under_low,
-        under_high,
-        placing,
-        &mut low,
-        &mut high,
-    )
+    let n = trees.n;
+    let mut owner = [0u8; 128];
+    owners(parent, n, &mut owner);
+    let mut rows = [0u64; 256];
+    graph_rows(parent, heads_low, heads_high, n, &mut rows);
+    let mut sets = [0u64; WIDE];
+    reduce(&rows, trees, &mut sets);
+    follow(&owner, trees, under, placing, &mut sets)
 }

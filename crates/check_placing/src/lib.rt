@@ -3,8 +3,7 @@ use crate::guide::reading;
 use crate::shape::is_placing;
 use crate::shape::single;
 use crate::shape::solved;
-use base_tables::trees::leaf_nodes;
-use base_tables::trees::root_nodes;
+use base_tables::trees::read_trees;
 use solve_closure::placing_rows;
 ghost use Prim.Native.Nat.{ℕ, _≤_};
 ghost use lib.ListN.{length, take};
@@ -47,30 +46,18 @@ pub fn check(
         Answered g (take n (now (placing .entry))) r)
         ⌝ }
 {
-    let leaves = leaf_nodes(parent, n);
-    let roots = root_nodes(parent, n);
-    if !is_placing(placing, n, leaves, roots) {
+    let trees = read_trees(parent, n);
+    if !is_placing(placing, trees) {
         return noes();
     }
-    let mut low = [0u64; 128];
-    let mut high = [0u64; 128];
-    placing_rows(parent, placing, n, &mut low, &mut high);
-    if !solved(heads_low, heads_high, &low, &high, n) {
+    let mut under = [0u64; 256];
+    placing_rows(parent, placing, n, &mut under);
+    if !solved(heads_low, heads_high, &under, n) {
         return noes();
     }
     Answers {
         solved: true,
         configuration: single(placing, n),
-        reading: reading(
-            parent,
-            heads_low,
-            heads_high,
-            n,
-            leaves,
-            roots,
-            &low,
-            &high,
-            placing,
-        ),
+        reading: reading(parent, heads_low, heads_high, trees, &under, placing),
     }
 }

@@ -1,7 +1,9 @@
 // What can be read off a placing's bytes and its rows: that it is a placing, a solved form, and that no leaf carries two
 // roots.
 use base_nodeset::NodeSet;
-use base_tables::rows::set_at;
+use base_tables::rows;
+use base_tables::sets::set_at;
+use base_tables::trees::Trees;
 use graph::NONE;
 use solve_closure::cyclic;
 ghost use mathlib.Core.Path.{_≡_};
@@ -9,34 +11,35 @@ ghost use mathlib.Core.Bool.{not, _&&_};
 ghost use Prim.Native.Nat.{_≤_, _<_};
 ghost use lib.ListN.{length};
 ghost use Rattle.base_finite.specs.Below.{any};
-ghost use Rattle.base_tables.specs.Rows.{Long, inRow};
+ghost use Rattle.base_tables.specs.Rows.{Long as Paired};
+ghost use Rattle.base_tables.specs.Sets.{Long, inRow};
 ghost use Rattle.check_placing.specs.Tests.{fits as fitting, placingIn, outside, downwardIn, singleIn};
 
 // 255, or a leaf where v is a root.
-fn fits(byte: u8, v: usize, n: usize, leaves: NodeSet, roots: NodeSet) -> bool
-    requires { ⌜ (v < n) × (n ≤ 128) ⌝ }
-    ensures { λ r. ⌜ r ≡ fitting n leaves roots v byte ⌝ }
+fn fits(byte: u8, v: usize, trees: Trees) -> bool
+    requires { ⌜ (v < trees .n) × (trees .n ≤ 128) ⌝ }
+    ensures { λ r. ⌜ r ≡ fitting trees v byte ⌝ }
 {
     if byte == NONE {
         return true;
     }
     let leaf = byte as usize;
-    if n <= leaf {
+    if trees.n <= leaf {
         return false;
     }
-    if roots.has(v) {
-        leaves.has(leaf)
+    if trees.roots.has(v) {
+        trees.leaves.has(leaf)
     } else {
         false
     }
 }
 
-pub fn is_placing(placing: &[u8], n: usize, leaves: NodeSet, roots: NodeSet) -> bool
-    requires { ⌜ (n ≤ 128) × (n ≤ length (now placing)) ⌝ }
-    ensures { λ r. ⌜ r ≡ placingIn n leaves roots (now (placing .entry)) ⌝ }
+pub fn is_placing(placing: &[u8], trees: Trees) -> bool
+    requires { ⌜ (trees .n ≤ 128) × (trees .n ≤ length (now placing)) ⌝ }
+    ensures { λ r. ⌜ r ≡ placingIn trees (now (placing .entry)) ⌝ }
 {
-    for v in 0..n {
-        if !fits(placing[v], v, n, leaves, roots) {
+    for v in 0..trees.n {
+        if !fits(placing[v], v, trees) {
             return false;
         }
     }
@@ -44,21 +47,21 @@ pub fn is_placing(placing: &[u8], n: usize, leaves: NodeSet, roots: NodeSet) -> 
 }
 
 // Some dominance edge of l's doesn't run downward.
-fn strays(heads_low: &[u64], heads_high: &[u64], low: &[u64], high: &[u64], l: usize) -> bool
-    requires { ⌜ Long (now «heads_low») (now «heads_high») × Long (now low) (now high) × (l < 128) ⌝ }
-    ensures { λ r. ⌜ r ≡ any 128 (outside (now («heads_low» .entry)) (now («heads_high» .entry)) (now (low .entry)) (now (high .entry)) l) ⌝ }
+fn strays(heads_low: &[u64], heads_high: &[u64], rows: &[u64], l: usize) -> bool
+    requires { ⌜ Paired (now «heads_low») (now «heads_high») × Long (now rows) × (l < 128) ⌝ }
+    ensures { λ r. ⌜ r ≡ any 128 (outside (now («heads_low» .entry)) (now («heads_high» .entry)) (now (rows .entry)) l) ⌝ }
 {
-    let heads = set_at(heads_low, heads_high, l);
-    let below = set_at(low, high, l);
+    let heads = rows::set_at(heads_low, heads_high, l);
+    let below = set_at(rows, l);
     !heads.difference(below).is_empty()
 }
 
-fn downward(heads_low: &[u64], heads_high: &[u64], low: &[u64], high: &[u64], n: usize) -> bool
-    requires { ⌜ Long (now «heads_low») (now «heads_high») × Long (now low) (now high) × (n ≤ 128) ⌝ }
-    ensures { λ r. ⌜ r ≡ downwardIn n (now («heads_low» .entry)) (now («heads_high» .entry)) (now (low .entry)) (now (high .entry)) ⌝ }
+fn downward(heads_low: &[u64], heads_high: &[u64], rows: &[u64], n: usize) -> bool
+    requires { ⌜ Paired (now «heads_low») (now «heads_high») × Long (now rows) × (n ≤ 128) ⌝ }
+    ensures { λ r. ⌜ r ≡ downwardIn n (now («heads_low» .entry)) (now («heads_high» .entry)) (now (rows .entry)) ⌝ }
 {
     for l in 0..n {
-        if strays(heads_low, heads_high, low, high, l) {
+        if strays(heads_low, heads_high, rows, l) {
             return false;
         }
     }
@@ -66,17 +69,17 @@ fn downward(heads_low: &[u64], heads_high: &[u64], low: &[u64], high: &[u64], n:
 }
 
 // The rows are a forest's, and each dominance edge runs downward.
-pub fn solved(heads_low: &[u64], heads_high: &[u64], low: &[u64], high: &[u64], n: usize) -> bool
-    requires { ⌜ Long (now «heads_low») (now «heads_high») × Long (now low) (now high) × (n ≤ 128) ⌝ }
+pub fn solved(heads_low: &[u64], heads_high: &[u64], rows: &[u64], n: usize) -> bool
+    requires { ⌜ Paired (now «heads_low») (now «heads_high») × Long (now rows) × (n ≤ 128) ⌝ }
     ensures { λ r. ⌜
-        r ≡ (not (any n (λ u. inRow (now (low .entry)) (now (high .entry)) u u))
-        && downwardIn n (now («heads_low» .entry)) (now («heads_high» .entry)) (now (low .entry)) (now (high .entry)))
+        r ≡ (not (any n (λ u. inRow (now (rows .entry)) u u))
+        && downwardIn n (now («heads_low» .entry)) (now («heads_high» .entry)) (now (rows .entry)))
         ⌝ }
 {
-    if cyclic(low, high, n) {
+    if cyclic(rows, n) {
         return false;
     }
-    downward(heads_low, heads_high, low, high, n)
+    downward(heads_low, heads_high, rows, n)
 }
 
 // No leaf carries two roots.

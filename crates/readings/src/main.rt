@@ -1,5 +1,5 @@
 // Lists the readings of the sheet on standard input, up to 2,048 bytes, as document 01's "The printed list" has them.
-use base_nodeset::NodeSet;
+use base_tables::trees::Trees;
 use base_text::count_line;
 use base_text::refused_line;
 use format::Refusal;
@@ -8,24 +8,29 @@ use graph::LAST;
 use libc::STDOUT_FILENO;
 use sheet_decode::judge::Verdict;
 use sheet_decode::read::read;
-use show_list::fill;
-use solve_branch::levels::WORDS;
-use solve_numbered::PAIRS;
+use show_list::fill_page;
+use solve_branch::levels::STACK;
+use solve_numbered::TRAIL;
 use solve_numbered::count;
-use solve_reduce::reduced::WIDE;
 use solve_start::begin;
+use solve_stretch::Stop;
+use solve_stretch::fill;
 use solve_walk::steps::first;
 ghost use mathlib.Core.Path.{_≡_};
 ghost use mathlib.Core.Bool.{false};
-ghost use Prim.Native.Nat.{min};
+ghost use Prim.Native.Nat.{_≤_, min};
 ghost use lib.ListN.{length};
 ghost use Rattle.graph.specs.Order.{limit, countAnswer};
 ghost use Rattle.theory_list.specs.Readings.{listed};
 ghost use Rattle.base_tables.specs.Tables.{SheetTables};
-ghost use Rattle.solve_branch.specs.Fits.{Walkable};
+ghost use Rattle.solve_walk.specs.States.{Walkable};
+ghost use Rattle.show_list.specs.Pages.{Held};
 
-// A page is written at once. A list that fits into one is walked through once.
-const PAGE: usize = 262144;
+// A list whose placings fit is walked through once.
+const PLACINGS: usize = 262144;
+
+// Lines are written so many bytes at a time.
+const PAGE: usize = 65536;
 
 fn print_refusal(why: Refusal) {
     let mut out = [0u8; 11];
@@ -39,27 +44,14 @@ fn print_count(count: Count) {
     io::write_all(STDOUT_FILENO, &out[..end]);
 }
 
-// The count. A page that no more follow has it as its last number, unless that is the last number there is. Else a walk
-// of its own counts.
-fn total(
-    parent: &[u8],
-    owner: &[u8],
-    n: usize,
-    leaves: NodeSet,
-    roots: NodeSet,
-    base_low: &[u64],
-    base_high: &[u64],
-    last: usize,
-    more: bool,
-) -> Count
-    requires { ⌜ Walkable n (now parent) (now owner) leaves roots (now «base_low») (now «base_high») ⌝ }
+// The count. Where no more follow it is the last number, unless that is the last number there is. Else a walk of its own counts.
+fn total(rows: &[u64], owner: &[u8], trees: Trees, last: usize, more: bool) -> Count
+    requires { ⌜ Walkable trees (now owner) (now rows) ⌝ }
     requires { ⌜
-        ((s : Walkable n (now parent) (now owner) leaves roots (now «base_low») (now «base_high»)) →
-        more ≡ false → last ≡ min (length (listed (s .graph))) limit)
+        ((s : Walkable trees (now owner) (now rows)) → more ≡ false → last ≡ min (length (listed (s .walked .graph))) limit)
         ⌝ }
     ensures { λ r. ⌜
-        ((s : Walkable n (now (parent .entry)) (now (owner .entry)) leaves roots (now («base_low» .entry)) (now («base_high» .entry))) →
-        r ≡ countAnswer (length (listed (s .graph))))
+        ((s : Walkable trees (now (owner .entry)) (now (rows .entry))) → r ≡ countAnswer (length (listed (s .walked .graph))))
         ⌝ }
 {
     if last < LAST {
@@ -67,112 +59,44 @@ fn total(
             return Count::Exactly(last);
         }
     }
-    count(parent, owner, n, leaves, roots, base_low, base_high)
+    count(rows, owner, trees)
 }
 
-// Line 1, before the first page.
-fn print_total(
-    parent: &[u8],
-    owner: &[u8],
-    n: usize,
-    leaves: NodeSet,
-    roots: NodeSet,
-    base_low: &[u64],
-    base_high: &[u64],
-    passed: usize,
-    last: usize,
-    more: bool,
-)
-    requires { ⌜ Walkable n (now parent) (now owner) leaves roots (now «base_low») (now «base_high») ⌝ }
-    requires { ⌜
-        ((s : Walkable n (now parent) (now owner) leaves roots (now «base_low») (now «base_high»)) →
-        more ≡ false → last ≡ min (length (listed (s .graph))) limit)
-        ⌝ }
+// The lines of the readings after the first `passed`, up to the number `last`.
+fn print_lines(placings: &[u8], trees: Trees, passed: usize, last: usize)
+    requires { ⌜ (trees .n ≤ 128) × (passed ≤ last) × (last ≤ limit) × Held trees passed last (now placings) ⌝ }
 {
-    if passed == 0 {
-        print_count(total(
-            parent,
-            owner,
-            n,
-            leaves,
-            roots,
-            base_low,
-            base_high,
-            last,
-            more,
-        ));
+    let mut out = [0u8; PAGE];
+    let mut done = passed;
+    while done < last {
+        let page = fill_page(placings, trees, passed, last, done, &mut out);
+        let bytes = page.bytes;
+        io::write_all(STDOUT_FILENO, &out[..bytes]);
+        done = page.last;
     }
 }
 
 // The count and the lines of the readings.
-fn print_readings(
-    parent: &[u8],
-    owner: &[u8],
-    n: usize,
-    leaves: NodeSet,
-    roots: NodeSet,
-    base_low: &[u64],
-    base_high: &[u64],
-)
-    requires { ⌜ Walkable n (now parent) (now owner) leaves roots (now «base_low») (now «base_high») ⌝ }
+fn print_readings(rows: &[u64], owner: &[u8], trees: Trees)
+    requires { ⌜ Walkable trees (now owner) (now rows) ⌝ }
 {
-    let mut low = [0u64; WIDE];
-    let mut high = [0u64; WIDE];
-    let mut saved_low = [0u64; WORDS];
-    let mut saved_high = [0u64; WORDS];
-    let mut uppers = [0u8; PAIRS];
-    let mut lowers = [0u8; PAIRS];
-    let mut depth = first(
-        parent,
-        owner,
-        n,
-        leaves,
-        roots,
-        base_low,
-        base_high,
-        &mut low,
-        &mut high,
-        &mut saved_low,
-        &mut saved_high,
-        &mut uppers,
-        &mut lowers,
-    );
-    let mut out = [0u8; PAGE];
-    let mut passed = 0;
-    let mut more = true;
-    while more {
-        let page = fill(
-            parent,
-            owner,
-            n,
-            roots,
-            &mut low,
-            &mut high,
-            &mut saved_low,
-            &mut saved_high,
-            &mut uppers,
-            &mut lowers,
-            depth,
-            passed,
-            &mut out,
-        );
-        print_total(
-            parent,
-            owner,
-            n,
-            leaves,
-            roots,
-            base_low,
-            base_high,
-            passed,
-            page.last,
-            page.more,
-        );
-        let bytes = page.bytes;
-        io::write_all(STDOUT_FILENO, &out[..bytes]);
-        depth = page.depth;
-        passed = page.last;
-        more = page.more;
+    let mut states = [0u64; STACK];
+    let mut trail = [0u8; TRAIL];
+    let at = first(rows, owner, trees, &mut states, &mut trail);
+    let outset = Stop {
+        last: 0,
+        more: true,
+        depth: at.depth,
+        kept: at.kept,
+    };
+    let mut placings = [0u8; PLACINGS];
+    let mut stop = fill(owner, trees, &mut states, &mut trail, outset, &mut placings);
+    print_count(total(rows, owner, trees, stop.last, stop.more));
+    print_lines(&placings, trees, 0, stop.last);
+    while stop.more {
+        let passed = stop.last;
+        stop = fill(owner, trees, &mut states, &mut trail, stop, &mut placings);
+        print_lines(&placings, trees, passed, stop.last);
     }
 }
 
@@ -181,19 +105,10 @@ fn print_list(parent: &[u8], heads_low: &[u64], heads_high: &[u64], n: usize)
     requires { ⌜ SheetTables n (now parent) (now «heads_low») (now «heads_high») ⌝ }
 {
     let mut owner = [0u8; 128];
-    let mut low = [0u64; 128];
-    let mut high = [0u64; 128];
-    let begun = begin(
-        parent,
-        heads_low,
-        heads_high,
-        n,
-        &mut owner,
-        &mut low,
-        &mut high,
-    );
+    let mut rows = [0u64; 256];
+    let begun = begin(parent, heads_low, heads_high, n, &mut owner, &mut rows);
     if begun.solvable {
-        print_readings(parent, &owner, n, begun.leaves, begun.roots, &low, &high);
+        print_readings(&rows, &owner, begun.trees);
     } else {
         print_refusal(Refusal::NoReading);
     }

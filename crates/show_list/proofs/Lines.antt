@@ -1,36 +1,30 @@
--- The lines of the readings, one after the other, and the line of the reading where the walk stands.
-use Prim.Native.Nat.{ℕ, zero, suc, _+_, _≤_, _<_, min}
-use mathlib.Core.Path.{_≡_, sym, ap, subst, _∙_}
+-- The lines of the readings, one after the other, and the line read off one of the placings that stand one after the other.
+use Prim.Native.Nat.{ℕ, zero, suc, _+_, _-_, _*_, _≤_, _<_, min}
+use mathlib.Core.Path.{_≡_, sym, ap, _∙_}
 use mathlib.Core.List.{List, [], _∷_, _++_, append-assoc, append-nil}
-use mathlib.Core.Bool.{true, false, cond, not, _&&_}
+use mathlib.Core.Bool.{true, false}
+use native.Mathlib.Nat.{zero-mul, suc-mul, mul-le-mul-right}
 use native.Mathlib.Omega.{arith}
 use native.Mathlib.Numerals.{add-one}
-use lib.Dec.{eqb, leb}
-use lib.ListN.{length, take, drop, length-append, length-take}
-use lib.Seq.{sets-eq, take-at, take-all, take-length}
+use lib.Dec.{leb}
+use lib.ListN.{length, take, drop, length-append, length-take, length-drop}
+use lib.Seq.{sets-eq, length-take-le, take-at, take-all, take-length, getD-take, getD-drop, drop-append-add}
 use borrow.Author.Tests.{leb-true, leb-false}
-use Rattle.base_finite.specs.Below.{spread}
 use Rattle.base_finite.specs.Stores.{Written, joined}
-use Rattle.base_finite.proofs.Laws.{by-bool, spread-ext}
-use Rattle.base_nodeset.specs.declared.NodeSet.{NodeSet}
-use Rattle.graph.specs.Graph.{Graph, root, none}
-use Rattle.graph.specs.Placing.{at}
+use Rattle.base_finite.proofs.Laws.{by-bool}
+use Rattle.graph.specs.Graph.{Graph}
 use Rattle.graph.specs.Order.{entry, limit, countAnswer}
-use Rattle.format.specs.Text.{decimal, line, countLine, readingLine, numbered, printed}
+use Rattle.format.specs.Text.{countLine, readingLine, numbered, printed}
+use Rattle.theory_forest.specs.Shape.{Shaped}
+use Rattle.theory_forest.proofs.Forests.{placing-length}
 use Rattle.theory_list.specs.Readings.{listed}
-use Rattle.theory_list.specs.Settled.{settled}
-use Rattle.solve_reduce.specs.Reduced.{RootsAre, LooplessForm}
+use Rattle.theory_list.proofs.Readings.{listing-exists}
+use Rattle.base_tables.specs.Trees.{TreesOf, Fits}
+use Rattle.base_tables.specs.declared.trees.Trees.{Trees}
 use Rattle.base_text.specs.Lines.{lineIn}
 use Rattle.base_text.proofs.Lines.{line-is}
-use Rattle.theory_walk.specs.Walk.{Decision, graphAt}
-use Rattle.theory_walk.proofs.Decisions.{graph-nodes, graph-root}
-use Rattle.theory_walk.proofs.States.{at-below, at-entry}
-use Rattle.solve_branch.specs.Decisions.{decisions}
-use Rattle.solve_branch.specs.Fits.{Fits}
-use Rattle.solve_branch.specs.States.{Stands}
-use Rattle.solve_branch.proofs.Fitting.{fits-at}
-use Rattle.solve_branch.proofs.Walks.{stands-given}
-use Rattle.show_list.specs.Pages.{linesTo}
+use Rattle.solve_stretch.specs.Stretch.{Filled}
+use Rattle.show_list.specs.Pages.{linesTo, Held}
 
 -- one line more
 lines-from : (g : Graph) (j k : ℕ) (ps : List (List ℕ)) → k < length ps
@@ -49,46 +43,109 @@ lines-more g k h =
     ∙ lines-from g 1 k (listed g) h
     ∙ ap (λ (i : ℕ). linesTo g k ++ readingLine g i (entry (listed g) k)) (omega arith)
 
--- the line does not ask for the dominance edges
-abbrev hung : Graph → List ℕ → ℕ → List ℕ
-hung g p r = cond (root g r && not (eqb (at p r) none)) (32 ∷ decimal r ++ 58 ∷ decimal (at p r)) []
-
-line-at : (g : Graph) (ds : List Decision) (k : ℕ) (p : List ℕ) → readingLine (graphAt g ds) k p ≡ readingLine g k p
-unfolding readingLine
-line-at g ds k p =
-    ap (λ (t : List ℕ). line (decimal k ++ t))
-    (spread-ext (graphAt g ds .nodes) (hung (graphAt g ds) p) (hung g p) (λ r h. rw (graph-root g ds r))
-    ∙ ap (λ (m : ℕ). spread m (hung g p)) (graph-nodes g ds))
-
 -- what was written, up to its end
 written-to : (old : List ℕ) (from : ℕ) (bs new : List ℕ) (end : ℕ) → from + length bs ≤ length old → Written old from bs new end → take end new ≡ take from old ++ bs
 written-to old from bs new end h w =
     ap (take end) (w .stored ∙ sets-eq bs old from h)
     ∙ take-at (take from old ++ bs) (drop (from + length bs) old) end (length-append (take from old) bs ∙ omega (arith, w .after, length-take from old))
 
-module _ {g : Graph} {n : ℕ} {parents owners : List ℕ} {roots : NodeSet} (f : Fits g n parents owners roots) {uppers lowers low high : List ℕ} {depth last : ℕ} (x : Stands g uppers lowers low high depth last) where
-  pub line-written : (passed : ℕ) (old : List ℕ) (from : ℕ) (new : List ℕ) (end : ℕ) → end ≤ length old
-      → ((h : Graph) → RootsAre h n roots → LooplessForm h n low high → Written old from (readingLine h (last + 1) (settled h)) new end)
-      → linesTo g passed ++ take from old ≡ linesTo g last → linesTo g passed ++ take end new ≡ linesTo g (last + 1)
-  line-written passed old from new end h wrote before =
-      let ds : List Decision = decisions uppers lowers depth in
-      let o = fits-at n (x .at .valid) parents owners roots f .owned in
-      let w = wrote (graphAt g ds) (record { nodes = o .nodes; are = o .roots-are }) (stands-given f x) in
-      let text : readingLine (graphAt g ds) (last + 1) (settled (graphAt g ds)) ≡ readingLine g (last + 1) (entry (listed g) last) =
-      line-at g ds (last + 1) (settled (graphAt g ds)) ∙ ap (readingLine g (last + 1)) (sym (at-entry (x .at))) in
-      ap (λ (bs : List ℕ). linesTo g passed ++ bs) (written-to old from _ new end (omega (arith, w .after)) w ∙ ap (λ (bs : List ℕ). take from old ++ bs) text)
-      ∙ sym (append-assoc (linesTo g passed) (take from old) (readingLine g (last + 1) (entry (listed g) last)))
-      ∙ ap (λ (bs : List ℕ). bs ++ readingLine g (last + 1) (entry (listed g) last)) before
-      ∙ sym (lines-more g last (at-below (x .at)))
+-- placings of n bytes each, one after the other
+module _ (n : ℕ) where
+  rows-length : (ps : List (List ℕ)) → ((i : ℕ) → i < length ps → length (entry ps i) ≡ n) → length (joined ps) ≡ length ps * n
+  unfolding joined
+  rows-length [] long = sym (zero-mul n)
+  rows-length (p ∷ ps) long =
+      length-append p (joined ps)
+      ∙ omega (arith, long 0 (omega arith), rows-length ps (λ i h. long (suc i) (omega (arith, h))), suc-mul (length ps) n)
 
-  pub stands-below : last < length (listed g)
-  stands-below = at-below (x .at)
+  row-of : (ps : List (List ℕ)) → ((i : ℕ) → i < length ps → length (entry ps i) ≡ n) → (rest : List ℕ) (i : ℕ) → i < length ps → take n (drop (i * n) (joined ps ++ rest)) ≡ entry ps i
+  unfolding joined
+  row-of [] long rest i h = absurd (omega arith)
+  row-of (p ∷ ps) long rest zero h =
+      ap (λ (m : ℕ). take n (drop m ((p ++ joined ps) ++ rest))) (zero-mul n)
+      ∙ ap (take n) (append-assoc p (joined ps) rest)
+      ∙ take-at p (joined ps ++ rest) n (long 0 (omega arith))
+  row-of (p ∷ ps) long rest (suc i) h =
+      let first : suc i * n ≡ length p + i * n = omega (arith, long 0 (omega arith), suc-mul i n) in
+      ap (λ (m : ℕ). take n (drop m ((p ++ joined ps) ++ rest))) first
+      ∙ ap (λ (l : List ℕ). take n (drop (length p + i * n) l)) (append-assoc p (joined ps) rest)
+      ∙ ap (take n) (drop-append-add p (joined ps ++ rest) (i * n))
+      ∙ row-of ps (λ j l. long (suc j) (omega (arith, l))) rest i (omega (arith, h))
 
--- the line read off the placing that was settled
-pub settled-line : {n : ℕ} {roots : NodeSet} (g : Graph) → RootsAre g n roots → (k : ℕ) (p old : List ℕ) (from : ℕ) (new : List ℕ) (end : ℕ)
-    → take n p ≡ settled g → Written old from (lineIn n roots p k) new end → Written old from (readingLine g k (settled g)) new end
-settled-line {n} {roots} g x k p old from new end is w =
-    subst (λ (bs : List ℕ). Written old from bs new end) (line-is roots n p k g (x .nodes) (x .are) ∙ ap (readingLine g k) is) w
+-- where the row of the number k + 1 stands
+module _ (n passed k at : ℕ) (after : passed ≤ k) (is : at ≡ (k - passed) * n) where
+  pub row-next : at + n ≡ (k + 1 - passed) * n
+  row-next =
+      let more : suc (k - passed) ≡ k + 1 - passed = omega (arith, after) in
+      omega (arith, is, suc-mul (k - passed) n) ∙ ap (λ (m : ℕ). m * n) more
+
+  pub row-within : (last room : ℕ) → k < last → (last - passed) * n ≤ room → at + n ≤ room
+  row-within last room before fits =
+      let fewer : k + 1 - passed ≤ last - passed = omega (arith, before) in
+      omega (arith, row-next, mul-le-mul-right n fewer, fits)
+
+-- the bytes from there on
+rest-is : (at : ℕ) (bytes : List ℕ) → take (length bytes - at) (drop at bytes) ≡ drop at bytes
+rest-is at bytes = take-all (length bytes - at) (drop at bytes) (omega (arith, length-drop at bytes))
+
+pub rest-length : (at : ℕ) (bytes : List ℕ) → length (take (length bytes - at) (drop at bytes)) ≡ length bytes - at
+rest-length at bytes = ap length (rest-is at bytes) ∙ length-drop at bytes
+
+-- those of a graph
+module _ {g : Graph} (shaped : Shaped g) {t : Trees} (trees : TreesOf g t) (passed last : ℕ) (from : passed ≤ last) (within : last ≤ length (listed g)) where
+  abbrev some : List (List ℕ)
+  some = take (last - passed) (drop passed (listed g))
+
+  some-length : length some ≡ last - passed
+  some-length = length-take-le (last - passed) (drop passed (listed g)) (omega (arith, length-drop passed (listed g), within))
+
+  some-entry : (i : ℕ) → i < last - passed → entry some i ≡ entry (listed g) (passed + i)
+  some-entry i h = getD-take (last - passed) (drop passed (listed g)) i [] h ∙ getD-drop passed (listed g) i []
+
+  some-long : (i : ℕ) → i < length some → length (entry some i) ≡ t .n
+  some-long i h =
+      let below : i < last - passed = omega (arith, some-length, h) in
+      ap length (some-entry i below)
+      ∙ placing-length g (entry (listed g) (passed + i)) (listing-exists g shaped .only-readings (passed + i) (omega (arith, below, within)) .solved .is-placing)
+      ∙ sym (trees .nodes)
+
+module _ {t : Trees} {passed last : ℕ} {bytes : List ℕ} (s : Held t passed last bytes) (from : passed ≤ last) where
+  -- they take n bytes each
+  pub held-room : (last - passed) * t .n ≤ length bytes
+  held-room =
+      let ps : List (List ℕ) = some (s .shaped) (s .trees) passed last from (s .within) in
+      let all : length (joined ps) ≡ (last - passed) * t .n =
+      rows-length (t .n) ps (some-long (s .shaped) (s .trees) passed last from (s .within))
+      ∙ ap (λ (m : ℕ). m * t .n) (some-length (s .shaped) (s .trees) passed last from (s .within)) in
+      omega (arith, all, ap length (s .placed) ∙ length-append (joined ps) (s .rest))
+
+  -- the line of the one with the number k + 1
+  pub line-written : (done k at : ℕ) → passed ≤ k → k < last → at ≡ (k - passed) * t .n
+      → (old : List ℕ) (start : ℕ) (new : List ℕ) (end : ℕ) → end ≤ length old
+      → Written old start (lineIn (t .n) (t .roots) (take (length bytes - at) (drop at bytes)) (k + 1)) new end
+      → linesTo (s .graph) done ++ take start old ≡ linesTo (s .graph) k → linesTo (s .graph) done ++ take end new ≡ linesTo (s .graph) (k + 1)
+  line-written done k at after before is old start new end h w lines =
+      let g : Graph = s .graph in
+      let part : List ℕ = take (length bytes - at) (drop at bytes) in
+      let ps : List (List ℕ) = some (s .shaped) (s .trees) passed last from (s .within) in
+      let here : passed + (k - passed) ≡ k = omega (arith, after) in
+      let row : take (t .n) part ≡ entry (listed g) k =
+      ap (take (t .n)) (rest-is at bytes ∙ ap (λ (m : ℕ). drop m bytes) is ∙ ap (drop ((k - passed) * t .n)) (s .placed))
+      ∙ row-of (t .n) ps (some-long (s .shaped) (s .trees) passed last from (s .within)) (s .rest) (k - passed)
+      (omega (arith, some-length (s .shaped) (s .trees) passed last from (s .within), after, before))
+      ∙ some-entry (s .shaped) (s .trees) passed last from (s .within) (k - passed) (omega (arith, after, before))
+      ∙ ap (entry (listed g)) here in
+      let text : lineIn (t .n) (t .roots) part (k + 1) ≡ readingLine g (k + 1) (entry (listed g) k) =
+      line-is (t .roots) (t .n) part (k + 1) g (s .trees .nodes) (s .trees .roots-are) ∙ ap (readingLine g (k + 1)) row in
+      ap (λ (bs : List ℕ). linesTo g done ++ bs) (written-to old start _ new end (omega (arith, w .after)) w ∙ ap (λ (bs : List ℕ). take start old ++ bs) text)
+      ∙ sym (append-assoc (linesTo g done) (take start old) (readingLine g (k + 1) (entry (listed g) k)))
+      ∙ ap (λ (bs : List ℕ). bs ++ readingLine g (k + 1) (entry (listed g) k)) lines
+      ∙ sym (lines-more g k (omega (arith, before, s .within)))
+
+-- what a walk has handed out
+pub filled-held : {g : Graph} {t : Trees} {owners : List ℕ} → Fits g t owners → {passed last : ℕ} {old new : List ℕ} → Filled g passed old last new → Held t passed last new
+filled-held {g} f w =
+    record { graph = g; shaped = f .shaped; trees = f .trees; within = omega (arith, w .within); rest = _; placed = w .bytes }
 
 take-reach : (ps : List (List ℕ)) (k : ℕ) → take k ps ≡ take (min (length ps) k) ps
 take-reach ps k =

@@ -22,7 +22,8 @@ use Rattle.theory_forest.proofs.Forests.{placing-length}
 use Rattle.theory_list.specs.Readings.{listed}
 use Rattle.theory_list.proofs.Readings.{listing-exists, listed-solved, one-below}
 use Rattle.base_tables.specs.Tables.{Tables, SheetTables}
-use Rattle.solve_branch.specs.Fits.{Walkable}
+use Rattle.base_tables.specs.declared.trees.Trees.{Trees}
+use Rattle.solve_walk.specs.States.{Walkable}
 use Rattle.solve_cycle.specs.Thinning.{Unsolved}
 use Rattle.solve_rule1.specs.Solved.{Solved}
 use Rattle.solve_rule1.specs.Step.{Configured}
@@ -35,7 +36,6 @@ use Rattle.solve_stretch.specs.Stretch as stretches
 use Rattle.solve_stretch.specs.Stretch.{placings}
 use Rattle.solve_stretch.proofs.Placings.{placings-one, placings-grow}
 use Rattle.solve_start.specs.Started.{WalkableOf}
-use Rattle.solve_start.specs.declared.Start.{Start}
 use Rattle.solve_answer.specs.Calls.{reach, Counts, ReadingCall, StretchCall, ConfigurationCall, DrawingCall, PlacingCall}
 use Rattle.solve_answer.specs.Calls as calls
 use Rattle.solve_answer.specs.declared.Counted.the-variants.{Readings, Refused as CountRefused}
@@ -120,21 +120,21 @@ module _ {n : ℕ} {parents heads-low heads-high : List ℕ} (s : SheetTables n 
 
   -- where there is one
 
-  module _ {owners low high : List ℕ} {r : Start} (x : WalkableOf (s .graph) n parents owners r low high) where
+  module _ {t : Trees} {owners rows : List ℕ} (x : WalkableOf (s .graph) t owners rows) where
     some : 0 < length (listed (s .graph))
     some = some-listed (s .graph) shaped (subst Solvable (x .is) (x .sheet .solvable))
 
     lists : Listing (s .graph) (listed (s .graph))
     lists = listing-exists (s .graph) shaped
 
-    pub a-count : (k : Count) → ((y : Walkable n parents owners (r .leaves) (r .roots) low high) → k ≡ countAnswer (length (listed (y .graph)))) → Counts (s .graph) (Readings k)
+    pub a-count : (k : Count) → ((y : Walkable t owners rows) → k ≡ countAnswer (length (listed (y .walked .graph)))) → Counts (s .graph) (Readings k)
     a-count k e =
         let here : k ≡ countAnswer (length (listed (s .graph))) = subst (λ (g : Graph). k ≡ countAnswer (length (listed g))) (x .is) (e (x .sheet)) in
         subst (λ (m : Count). Counts (s .graph) (Readings m)) (sym here) (calls.Counts.counted (listed (s .graph)) lists some)
 
     -- of the first `room` bytes lent a stretch made `part`
 
-    module _ {room place last : ℕ} (old : List ℕ) {part : List ℕ} (h : 2 * n ≤ length old) (below : room ≤ length old) (f : (y : Walkable n parents owners (r .leaves) (r .roots) low high) → stretches.StretchOf (y .graph) place (take room old) last part) where
+    module _ {room place last : ℕ} (old : List ℕ) {part : List ℕ} (h : 2 * n ≤ length old) (below : room ≤ length old) (f : (y : Walkable t owners rows) → stretches.StretchOf (y .walked .graph) place (take room old) last part) where
       stretched : stretches.StretchOf (s .graph) place (take room old) last part
       stretched = subst (λ (g : Graph). stretches.StretchOf g place (take room old) last part) (x .is) (f (x .sheet))
 
@@ -170,7 +170,7 @@ module _ {n : ℕ} {parents heads-low heads-high : List ℕ} (s : SheetTables n 
 
     -- the reading with the number k, in a table of its own
 
-    module _ {k : ℕ} {blank placing : List ℕ} {b : Bool} (f : (y : Walkable n parents owners (r .leaves) (r .roots) low high) → Finds (y .graph) k blank b placing) where
+    module _ {k : ℕ} {blank placing : List ℕ} {b : Bool} (f : (y : Walkable t owners rows) → Finds (y .walked .graph) k blank b placing) where
       here : Finds (s .graph) k blank b placing
       here = subst (λ (g : Graph). Finds g k blank b placing) (x .is) (f (x .sheet))
 

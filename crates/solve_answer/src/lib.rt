@@ -52,21 +52,12 @@ pub fn count_of(parent: &[u8], heads_low: &[u64], heads_high: &[u64], n: usize) 
         ⌝ }
 {
     let mut owner = [0u8; 128];
-    let mut low = [0u64; 128];
-    let mut high = [0u64; 128];
-    let begun = begin(
-        parent,
-        heads_low,
-        heads_high,
-        n,
-        &mut owner,
-        &mut low,
-        &mut high,
-    );
+    let mut rows = [0u64; 256];
+    let begun = begin(parent, heads_low, heads_high, n, &mut owner, &mut rows);
     if !begun.solvable {
         return Counted::Refused(Refusal::NoReading);
     }
-    Counted::Readings(count(parent, &owner, n, begun.leaves, begun.roots, &low, &high))
+    Counted::Readings(count(&rows, &owner, begun.trees))
 }
 
 // What a call hands out: the readings after the first `passed`, as many as fit into the first `room` bytes lent.
@@ -104,17 +95,8 @@ pub fn readings_of(
         };
     }
     let mut owner = [0u8; 128];
-    let mut low = [0u64; 128];
-    let mut high = [0u64; 128];
-    let begun = begin(
-        parent,
-        heads_low,
-        heads_high,
-        n,
-        &mut owner,
-        &mut low,
-        &mut high,
-    );
+    let mut rows = [0u64; 256];
+    let begun = begin(parent, heads_low, heads_high, n, &mut owner, &mut rows);
     if !begun.solvable {
         let pairs = witness(parent, heads_low, heads_high, n, out);
         return Handed {
@@ -123,17 +105,7 @@ pub fn readings_of(
         };
     }
     let room = wanted.room;
-    let last = stretch(
-        parent,
-        &owner,
-        n,
-        begun.leaves,
-        begun.roots,
-        &low,
-        &high,
-        passed,
-        &mut out[..room],
-    );
+    let last = stretch(&rows, &owner, begun.trees, passed, &mut out[..room]);
     if last == passed {
         return Handed {
             answer: Placed::Refused(Refusal::NoSuchReading),
@@ -186,17 +158,8 @@ pub fn drawing_of(
         return Drawn::Refused(Refusal::SmallBuffer);
     }
     let mut owner = [0u8; 128];
-    let mut low = [0u64; 128];
-    let mut high = [0u64; 128];
-    let begun = begin(
-        parent,
-        heads_low,
-        heads_high,
-        n,
-        &mut owner,
-        &mut low,
-        &mut high,
-    );
+    let mut rows = [0u64; 256];
+    let begun = begin(parent, heads_low, heads_high, n, &mut owner, &mut rows);
     if !begun.solvable {
         return Drawn::Refused(Refusal::NoReading);
     }
@@ -207,17 +170,7 @@ pub fn drawing_of(
         return Drawn::Refused(Refusal::NoSuchReading);
     }
     let mut placing = [0u8; 128];
-    if find(
-        parent,
-        &owner,
-        n,
-        begun.leaves,
-        begun.roots,
-        &low,
-        &high,
-        number,
-        &mut placing,
-    ) {
+    if find(&rows, &owner, begun.trees, number, &mut placing) {
         return Drawn::Length(draw(parent, n, &placing, out));
     }
     Drawn::Refused(Refusal::NoSuchReading)

@@ -1,6 +1,6 @@
 pub mod Tables
+pub mod Stack
 pub mod Fitting
-pub mod Rows
 pub mod Walks
-pub mod Dives
-pub mod Saved
+pub mod Dived
+pub mod Rows

@@ -1,38 +1,36 @@
--- The states of a walk, with the reduced form of the graph where the decisions have led.
-use Prim.Native.Nat.{ℕ}
+-- The states of a walk: where it stands in the list, with the states that match. k readings are passed.
+use Prim.Native.Nat.{ℕ, _+_, _≤_}
 use mathlib.Core.List.{List}
-use mathlib.Core.Bool.{Bool, true, false}
 use Rattle.graph.specs.Graph.{Graph, Descent}
-use Rattle.graph.specs.Placing.{Solvable, Unsolvable}
+use Rattle.graph.specs.Placing.{Solvable}
 use Rattle.theory_forest.specs.Shape.{Shaped}
-use Rattle.theory_walk.specs.Walk.{first, second, half, graphAt, Entering, At}
-use Rattle.solve_branch.specs.Decisions.{decisions}
-use Rattle.solve_branch.specs.Fits.{Reduction}
+use Rattle.theory_walk.specs.Walk.{Entering, At, Leaving}
+use Rattle.solve_branch.specs.Decisions.{decisions, reached}
+use Rattle.solve_branch.specs.Levels.{Matches}
+use Rattle.solve_branch.specs.declared.levels.Level.{Level}
 
--- k readings are passed, and those of the graph at the decisions come next
-pub record Enters (g : Graph) (uppers lowers low high : List ℕ) (depth k : ℕ) : Type 0 where
-  pub entering : Entering g (decisions uppers lowers depth) k
-  pub reduction : Reduction (graphAt g (decisions uppers lowers depth)) low high
+-- the readings of the graph at the decisions come next, and it has some
+pub record Enters (g : Graph) (trail states : List ℕ) (at : Level) (k : ℕ) : Type 0 where
+  pub entering : Entering g (decisions trail (at .depth)) k
+  pub matches : Matches g trail states at
+  pub here : at .kept ≤ at .depth
 
--- k readings are passed, and the next is the settled placing of the graph at the decisions
-pub record Stands (g : Graph) (uppers lowers low high : List ℕ) (depth k : ℕ) : Type 0 where
-  pub at : At g (decisions uppers lowers depth) k
-  pub reduction : Reduction (graphAt g (decisions uppers lowers depth)) low high
+-- the next reading is the settled placing of the graph at the decisions
+pub record Stands (g : Graph) (trail states : List ℕ) (at : Level) (k : ℕ) : Type 0 where
+  pub reading : At g (decisions trail (at .depth)) k
+  pub matches : Matches g trail states at
+  pub here : at .kept ≤ at .depth
 
--- k readings are passed, and if the graph at the decisions has a solved form, its readings come next; if it has a cycle, one
--- goes through the leaf that the last edge starts from
-pub record Diving (g : Graph) (uppers lowers low high : List ℕ) (depth latest k : ℕ) : Type 0 where
-  pub shaped : Shaped (graphAt g (decisions uppers lowers depth))
-  pub reduction : Reduction (graphAt g (decisions uppers lowers depth)) low high
-  pub cycle : (u : ℕ) → Descent (graphAt g (decisions uppers lowers depth)) u u → Descent (graphAt g (decisions uppers lowers depth)) latest latest
-  pub enters : Solvable (graphAt g (decisions uppers lowers depth)) → Entering g (decisions uppers lowers depth) k
+-- if the graph at the decisions has a solved form, its readings come next; if it has a cycle, one goes through the leaf that the
+-- last edge starts from
+pub record Dives (g : Graph) (trail states : List ℕ) (at : Level) (latest k : ℕ) : Type 0 where
+  pub shaped : Shaped (reached g trail (at .depth))
+  pub cycle : (u : ℕ) → Descent (reached g trail (at .depth)) u u → Descent (reached g trail (at .depth)) latest latest
+  pub enters : Solvable (reached g trail (at .depth)) → Entering g (decisions trail (at .depth)) k
+  pub matches : Matches g trail states at
+  pub here : at .kept ≤ at .depth
 
--- true: the first half has a solved form; false: it has none. The reduced form is that of the half entered.
-abbrev pub Halved : Graph → ℕ → ℕ → Bool → List ℕ → List ℕ → Type 0
-Halved g a b true low high = Solvable (half g (first a b)) × Reduction (half g (first a b)) low high
-Halved g a b false low high = Unsolvable (half g (first a b)) × Reduction (half g (second a b)) low high
-
--- true: the second half has a solved form, and the reduced form is its; false: it has none
-abbrev pub Turned : Graph → ℕ → ℕ → Bool → List ℕ → List ℕ → Type 0
-Turned g a b true low high = Solvable (half g (second a b)) × Reduction (half g (second a b)) low high
-Turned g a b false low high = Unsolvable (half g (second a b))
+-- the readings of the graph at one decision more are passed
+pub record Leaves (g : Graph) (trail states : List ℕ) (at : Level) (k : ℕ) : Type 0 where
+  pub leaving : Leaving g (decisions trail (at .depth + 1)) k
+  pub matches : Matches g trail states at

@@ -1,86 +1,137 @@
 // The way to the next reading on which no half is tested. Where it comes to a reading, each half on it has that solved form;
 // where it comes to a cycle, nothing is known, and the tested way is left.
-use crate::levels::save;
-use crate::replay::add_half;
-use crate::replay::turn;
-use base_nodeset::NodeSet;
-use base_tables::rows::set_at;
+use crate::levels::Level;
+use crate::levels::back_to;
+use crate::levels::down;
+use crate::levels::slot;
+use base_tables::sets::set_at;
+use base_tables::trees::Trees;
 use solve_reduce::choose::Fork;
 use solve_reduce::choose::choose;
-ghost use Prim.Native.Nat.{ℕ, _+_, _≤_, _<_};
-ghost use lib.ListN.{length, getD};
+use solve_reduce::reduced::WIDE;
+ghost use mathlib.Core.Path.{_≡_};
+ghost use Prim.Native.Nat.{ℕ, _+_, _*_, _%_, _≤_, _<_};
+ghost use lib.ListN.{length};
 ghost use Rattle.graph.specs.Graph.{Graph};
-ghost use Rattle.solve_reduce.specs.Reduced.{Wide};
-ghost use Rattle.theory_walk.specs.Walk.{Leaving};
-ghost use Rattle.solve_branch.specs.Decisions.{decisions, Within, Kept};
-ghost use Rattle.solve_branch.specs.Fits.{Owners, Owned};
-ghost use Rattle.solve_branch.specs.Levels.{Levels, Saved};
-ghost use Rattle.solve_branch.specs.States.{Diving};
-ghost use Rattle.solve_branch.specs.Dives.{Reaches, SavedTo, Unchanged, Back};
+ghost use Rattle.theory_walk.specs.Walk.{Valid, Leaving};
+ghost use Rattle.base_tables.specs.Sets.{inRow};
+ghost use Rattle.base_tables.specs.Trees.{Owners, Fits};
+ghost use Rattle.solve_reduce.specs.Reduced.{LooplessForm};
+ghost use Rattle.solve_reduce.specs.Chosen.{Bounded, Chosen};
+ghost use Rattle.solve_branch.specs.Decisions.{upperAt, lowerAt, decisions, Noted, Kept, written, turned};
+ghost use Rattle.solve_branch.specs.Levels.{Stack, state, Matches};
+ghost use Rattle.solve_branch.specs.States.{Enters, Dives};
+ghost use Rattle.solve_branch.specs.Dives.{Reaches, Deeper, Back, Tries, Turns};
 
 pub enum Dived {
-    To(usize),
-    Stuck,
+    To(Level),
+    Stuck(Level),
+}
+
+// The choice at a level.
+pub fn fork(states: &[u64], n: usize, depth: usize) -> Fork
+    requires { ⌜ Stack (now states) × (n ≤ 128) ⌝ }
+    ensures { λ r. ⌜ Bounded n r ⌝ }
+    ensures { λ r. ⌜ ((g : Graph) → LooplessForm g n (state (depth % 32) (now (states .entry))) → Chosen g r) ⌝ }
+{
+    let from = slot(depth);
+    choose(&states[from..from + WIDE], n)
+}
+
+// Whether a level's graph has a cycle through the leaf.
+fn closed(states: &[u64], depth: usize, leaf: usize) -> bool
+    requires { ⌜ Stack (now states) × (leaf < 128) ⌝ }
+    ensures { λ r. ⌜ r ≡ inRow (state (depth % 32) (now (states .entry))) leaf leaf ⌝ }
+{
+    let from = slot(depth);
+    set_at(&states[from..from + WIDE], leaf).has(leaf)
+}
+
+// A decision, written down.
+pub fn write(trail: &mut [u8], i: usize, upper: usize, lower: usize)
+    requires { ⌜ (2 * i + 1 < length (now trail)) × (upper < 128) × (lower < 128) ⌝ }
+    ensures { λ _. ⌜ now (trail .exit) ≡ written i upper lower (now (trail .entry)) ⌝ }
+{
+    trail[2 * i] = upper as u8;
+    trail[2 * i + 1] = lower as u8;
+}
+
+// The other half of a choice, in place of the one taken.
+pub fn swap(trail: &mut [u8], i: usize)
+    requires { ⌜ 2 * i + 1 < length (now trail) ⌝ }
+    ensures { λ _. ⌜ now (trail .exit) ≡ turned i (now (trail .entry)) ⌝ }
+{
+    let upper = trail[2 * i];
+    trail[2 * i] = trail[2 * i + 1];
+    trail[2 * i + 1] = upper;
+}
+
+// Into the other half of the choice at `last`.
+pub fn turn(
+    owner: &[u8],
+    trees: Trees,
+    states: &mut [u64],
+    trail: &mut [u8],
+    at: Level,
+    last: usize,
+) -> Level
+    requires { ⌜ Owners trees (now owner) × Stack (now states) × ((i : ℕ) → i < last + 1 → Noted (trees .n) (now trail) i) ⌝ }
+    ensures { λ r. ⌜ (now (trail .exit) ≡ turned last (now (trail .entry))) × (r .depth ≡ last + 1) ⌝ }
+    ensures { λ r. ⌜
+        ((g : Graph) → Fits g trees (now (owner .entry)) → Matches g (now (trail .entry)) (now (states .entry)) at → last ≤ at .depth →
+        Valid g (decisions (now (trail .entry)) (last + 1)) → upperAt (now (trail .entry)) last < lowerAt (now (trail .entry)) last →
+        Matches g (now (trail .exit)) (now (states .exit)) r × (r .kept ≤ r .depth))
+        ⌝ }
+{
+    let there = back_to(owner, trees, states, trail, at, last);
+    swap(trail, last);
+    down(owner, trees, states, trail, there)
 }
 
 // Down by first halves. `latest` is the leaf that the last edge starts from: if there is a cycle, one goes through it. The
-// tables have room for every walk; that they end is tested for the bounds alone.
+// table has room for every walk; that it ends is tested for the bounds alone.
 fn dive(
     owner: &[u8],
-    n: usize,
-    roots: NodeSet,
-    low: &mut [u64],
-    high: &mut [u64],
-    saved_low: &mut [u64],
-    saved_high: &mut [u64],
-    uppers: &mut [u8],
-    lowers: &mut [u8],
-    depth: usize,
+    trees: Trees,
+    states: &mut [u64],
+    trail: &mut [u8],
+    at: Level,
     latest: usize,
 ) -> Dived
-    requires { ⌜ Owners n (now owner) roots × (n ≤ 128) × Wide (now low) (now high) × Levels (now «saved_low») (now «saved_high») × (latest < n) ⌝ }
-    ensures { λ _. ⌜ Kept depth (now (uppers .entry)) (now (lowers .entry)) (now (uppers .exit)) (now (lowers .exit)) ⌝ }
+    requires { ⌜ Owners trees (now owner) × Stack (now states) × (2 * at .depth ≤ length (now trail)) × (latest < trees .n) ⌝ }
+    ensures { λ r. ⌜ Kept (at .depth) (now (trail .entry)) (now (trail .exit)) × Deeper (at .depth) r ⌝ }
     ensures { λ r. ⌜
-        ((g : Graph) (k : ℕ) → Owned g n (now (owner .entry)) roots →
-        Diving g (now (uppers .entry)) (now (lowers .entry)) (now (low .entry)) (now (high .entry)) depth latest k →
-        Reaches g (now (uppers .exit)) (now (lowers .exit)) (now (low .exit)) (now (high .exit)) k r
-        × (Saved g (now (uppers .entry)) (now (lowers .entry)) (now («saved_low» .entry)) (now («saved_high» .entry)) depth →
-        SavedTo g (now (uppers .exit)) (now (lowers .exit)) (now («saved_low» .exit)) (now («saved_high» .exit)) depth r))
+        ((g : Graph) (k : ℕ) → Fits g trees (now (owner .entry)) → Dives g (now (trail .entry)) (now (states .entry)) at latest k →
+        Reaches g (now (trail .exit)) (now (states .exit)) k r)
         ⌝ }
 {
-    let mut at = depth;
+    let mut here = at;
     let mut leaf = latest;
     loop {
-        if set_at(low, high, leaf).has(leaf) {
-            return Dived::Stuck;
+        if closed(states, here.depth, leaf) {
+            return Dived::Stuck(here);
         }
-        let Fork::At(v, a, b) = choose(low, high, n) else {
-            return Dived::To(at);
+        let Fork::At(v, a, b) = fork(states, trees.n, here.depth) else {
+            return Dived::To(here);
         };
-        if uppers.len() <= at {
-            return Dived::Stuck;
+        if trail.len() - 2 * here.depth < 2 {
+            return Dived::Stuck(here);
         }
-        if lowers.len() <= at {
-            return Dived::Stuck;
-        }
-        save(low, high, n, saved_low, saved_high, at);
-        add_half(owner, n, roots, low, high, a, b);
-        uppers[at] = a as u8;
-        lowers[at] = b as u8;
-        at += 1;
+        write(trail, here.depth, a, b);
+        here = down(owner, trees, states, trail, here);
         leaf = a;
     }
 }
 
 // How many decisions are left without those after the last first half.
-pub fn back(uppers: &[u8], lowers: &[u8], depth: usize) -> usize
-    requires { ⌜ (depth ≤ length (now uppers)) × (depth ≤ length (now lowers)) ⌝ }
-    ensures { λ r. ⌜ Back (now (uppers .entry)) (now (lowers .entry)) depth r ⌝ }
+pub fn back(trail: &[u8], depth: usize) -> usize
+    requires { ⌜ 2 * depth ≤ length (now trail) ⌝ }
+    ensures { λ r. ⌜ Turns (now (trail .entry)) depth r ⌝ }
 {
     let mut at = depth;
     while 0 < at {
         let last = at - 1;
-        if uppers[last] < lowers[last] {
+        if trail[2 * last] < trail[2 * last + 1] {
             return at;
         }
         at = last;
@@ -91,60 +142,53 @@ pub fn back(uppers: &[u8], lowers: &[u8], depth: usize) -> usize
 // Into the other half of the choice at `last`, and down. Where that leads to no reading the decisions stay.
 pub fn hop(
     owner: &[u8],
-    n: usize,
-    roots: NodeSet,
-    low: &mut [u64],
-    high: &mut [u64],
-    saved_low: &mut [u64],
-    saved_high: &mut [u64],
-    uppers: &mut [u8],
-    lowers: &mut [u8],
+    trees: Trees,
+    states: &mut [u64],
+    trail: &mut [u8],
+    at: Level,
     last: usize,
 ) -> Dived
-    requires { ⌜ Owners n (now owner) roots × (n ≤ 128) × Wide (now low) (now high) × Levels (now «saved_low») (now «saved_high») ⌝ }
-    requires { ⌜ Within n (last + 1) (now uppers) (now lowers) ⌝ }
-    ensures { λ r. ⌜ Unchanged (last + 1) (now (uppers .entry)) (now (lowers .entry)) (now (uppers .exit)) (now (lowers .exit)) r ⌝ }
+    requires { ⌜ Owners trees (now owner) × Stack (now states) × ((i : ℕ) → i < last + 1 → Noted (trees .n) (now trail) i) ⌝ }
+    ensures { λ r. ⌜ Back last (now (trail .entry)) (now (trail .exit)) r ⌝ }
     ensures { λ r. ⌜
-        ((g : Graph) (k : ℕ) → Owned g n (now (owner .entry)) roots →
-        Leaving g (decisions (now (uppers .entry)) (now (lowers .entry)) (last + 1)) k →
-        getD (now (uppers .entry)) last 0 < getD (now (lowers .entry)) last 0 →
-        Saved g (now (uppers .entry)) (now (lowers .entry)) (now («saved_low» .entry)) (now («saved_high» .entry)) (last + 1) →
-        Reaches g (now (uppers .exit)) (now (lowers .exit)) (now (low .exit)) (now (high .exit)) k r
-        × SavedTo g (now (uppers .exit)) (now (lowers .exit)) (now («saved_low» .exit)) (now («saved_high» .exit)) (last + 1) r)
+        ((g : Graph) (k : ℕ) → Fits g trees (now (owner .entry)) → Matches g (now (trail .entry)) (now (states .entry)) at → last ≤ at .depth →
+        Leaving g (decisions (now (trail .entry)) (last + 1)) k → upperAt (now (trail .entry)) last < lowerAt (now (trail .entry)) last →
+        Reaches g (now (trail .exit)) (now (states .exit)) k r)
         ⌝ }
 {
-    turn(
-        owner,
-        n,
-        roots,
-        saved_low,
-        saved_high,
-        uppers,
-        lowers,
-        last,
-        low,
-        high,
-    );
-    let a = uppers[last];
-    let b = lowers[last];
-    uppers[last] = b;
-    lowers[last] = a;
-    let dived = dive(
-        owner,
-        n,
-        roots,
-        low,
-        high,
-        saved_low,
-        saved_high,
-        uppers,
-        lowers,
-        last + 1,
-        b as usize,
-    );
-    if let Dived::Stuck = dived {
-        uppers[last] = a;
-        lowers[last] = b;
+    let other = turn(owner, trees, states, trail, at, last);
+    let latest = trail[2 * last] as usize;
+    match dive(owner, trees, states, trail, other, latest) {
+        Dived::To(reading) => Dived::To(reading),
+        Dived::Stuck(deep) => {
+            swap(trail, last);
+            Dived::Stuck(Level {
+                depth: last,
+                kept: deep.kept,
+            })
+        }
     }
-    dived
+}
+
+// Down from a level that has a solved form. Where that leads to no reading the walk is back at the level.
+pub fn try_down(
+    owner: &[u8],
+    trees: Trees,
+    states: &mut [u64],
+    trail: &mut [u8],
+    at: Level,
+    leaf: usize,
+) -> Dived
+    requires { ⌜ Owners trees (now owner) × Stack (now states) × ((i : ℕ) → i < at .depth → Noted (trees .n) (now trail) i) × (leaf < trees .n) ⌝ }
+    ensures { λ r. ⌜ Kept (at .depth) (now (trail .entry)) (now (trail .exit)) ⌝ }
+    ensures { λ r. ⌜
+        ((g : Graph) (k : ℕ) → Fits g trees (now (owner .entry)) → Enters g (now (trail .entry)) (now (states .entry)) at k →
+        Tries g (now (trail .exit)) (now (states .exit)) (at .depth) k r)
+        ⌝ }
+{
+    let depth = at.depth;
+    match dive(owner, trees, states, trail, at, leaf) {
+        Dived::To(reading) => Dived::To(reading),
+        Dived::Stuck(deep) => Dived::Stuck(back_to(owner, trees, states, trail, deep, depth)),
+    }
 }

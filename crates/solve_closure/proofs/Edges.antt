@@ -1,23 +1,27 @@
 -- The steps of the loops: a column read row by row, rows joined one by one, and edges added one after the other.
-use Prim.Native.Nat.{ℕ, _+_, _≤_, _<_}
+use Prim.Native.Nat.{ℕ, zero, suc, _+_, _*_, _-_, _%_, _^_, _≤_, _<_}
 use mathlib.Core.Path.{_≡_, refl, sym, _∙_}
 use mathlib.Core.List.{List}
 use mathlib.Core.Bool.{Bool, true, false, not, _&&_, _||_, or-assoc, false≢true}
 use mathlib.Core.Logic.{⊎-elim, _↔_}
+use native.Mathlib.Nat.{zero-mul, zero-mod}
 use native.Mathlib.Omega.{arith}
+use lib.Bits.{bitOr}
 use lib.Dec.{eqb, ltb}
 use lib.ListN.{length, getD, set, List·getD-eq-default}
 use lib.Seq.{getD-set-same, getD-set-other}
 use borrow.Author.Tests.{eq-eqb, ne-eqb, eqb-true, eqb-false, lt-ltb, le-ltb, ltb-true, ltb-false}
 use Rattle.base_finite.proofs.Laws.{by-bool, or-cases, or-false, and-both, and-true, and-false}
-use Rattle.base_nodeset.specs.Set.{mem, Empty, Inserted, Union, Lowest}
+use Rattle.base_nodeset.specs.Set.{bit, member, mem, Empty, Inserted, Union, Lowest}
 use Rattle.base_nodeset.specs.declared.NodeSet.{NodeSet}
-use Rattle.base_nodeset.proofs.Laws.{member-zero}
+use Rattle.base_nodeset.proofs.Words.{bit-zero, bit-or, bit-power, shift-one}
+use Rattle.base_nodeset.proofs.Laws.{member-zero, member-low, member-high}
 use Rattle.base_nodeset.proofs.Members.{removed-member}
 use Rattle.graph.specs.Graph.{none}
 use Rattle.theory_forest.proofs.Closure.{Adding}
 use Rattle.theory_forest.proofs.Table.{or-holds, and-holds, eqb-holds}
-use Rattle.base_tables.specs.Rows.{inRow, IsRow, RowPut}
+use Rattle.base_tables.specs.Rows.{IsRow, inRow as inPair}
+use Rattle.base_tables.specs.Sets.{inRow, RowPut}
 use Rattle.solve_closure.specs.Closing.{Rising, Joined, Extended, Links, linkTo, linkIn, headOf, headIn, Closed, Adds}
 use Rattle.solve_closure.proofs.Laws.{rows-map, path-iff, extended-rows}
 
@@ -37,13 +41,12 @@ zero-all l n long zeros k =
     (λ (e : ltb k n ≡ true). zeros k (ltb-true k n e))
     (λ (e : ltb k n ≡ false). List·getD-eq-default l 0 (omega (arith, ltb-false k n e)))
 
-pub cleared : (low high : List ℕ) (n : ℕ) → length low ≤ n → length high ≤ n → ((k : ℕ) → k < n → getD low k 0 ≡ 0) → ((k : ℕ) → k < n → getD high k 0 ≡ 0)
-    → (u v : ℕ) → inRow low high u v ≡ false
-cleared low high n l h lows highs u v = rw (zero-all low n l lows u, zero-all high n h highs u) (member-zero v)
+pub cleared : (rows : List ℕ) (n : ℕ) → length rows ≤ n → ((k : ℕ) → k < n → getD rows k 0 ≡ 0) → (u v : ℕ) → inRow rows u v ≡ false
+cleared rows n h zeros u v = rw (zero-all rows n h zeros (2 * u), zero-all rows n h zeros (2 * u + 1)) (member-zero v)
 
 -- one number more
 
-below-more-test : (v n : ℕ) → ltb v (n + 1) ≡ (ltb v n || eqb v n)
+pub below-more-test : (v n : ℕ) → ltb v (n + 1) ≡ (ltb v n || eqb v n)
 below-more-test v n =
     by-bool (ltb v n)
     (λ (e : ltb v n ≡ true). rw (e, lt-ltb v (n + 1) (omega (arith, ltb-true v n e))))
@@ -55,40 +58,66 @@ below-more-test v n =
     let other : v ≡ n → ⊥ = eqb-false v n i in
     rw (i, le-ltb v (n + 1) (omega (arith, ltb-false v n e))))))
 
--- a column, row by row
+-- a column, row by row: a digit d, shifted to its place, is joined to the word
 
-pub column-none : (p : ℕ → Bool) (s : NodeSet) → Empty s → (x : ℕ) → mem s x ≡ (ltb x 0 && p x)
-column-none p s none x = rw (le-ltb x 0 (omega arith)) (none x)
+bit-shifted : (d i j : ℕ) → d < 2 → i < 64 → bit ((d * 2 ^ i) % 2 ^ 64) j ≡ (eqb j i && eqb d 1)
+bit-shifted zero i j h l = rw (zero-mul, zero-mod, bit-zero j, and-false (eqb j i))
+bit-shifted (suc zero) i j h l = rw (shift-one 64 i l, bit-power i j, and-true (eqb j i))
+bit-shifted (suc (suc d)) i j h l = absurd (omega arith)
 
-module _ (p : ℕ → Bool) (n : ℕ) (s : NodeSet) (before : (x : ℕ) → mem s x ≡ (ltb x n && p x)) where
-  pub column-there : (t : NodeSet) → p n ≡ true → Inserted s n t → (x : ℕ) → mem t x ≡ (ltb x (n + 1) && p x)
-  column-there t there is x =
-      is x
-      ∙ rw (before x, below-more-test x n)
-      (by-bool (eqb x n)
-      (λ (e : eqb x n ≡ true). rw (e, eqb-true x n e, there, le-ltb n n (omega arith)))
-      (λ (e : eqb x n ≡ false). rw (e, or-false (ltb x n))))
+pub column-none : (p : ℕ → Bool) (i : ℕ) → bit 0 i ≡ (ltb i 0 && p i)
+column-none p i = rw (le-ltb i 0 (omega arith)) (bit-zero i)
 
-  pub column-not : p n ≡ false → (x : ℕ) → mem s x ≡ (ltb x (n + 1) && p x)
-  column-not gone x =
-      before x
-      ∙ rw (below-more-test x n)
-      (by-bool (eqb x n)
-      (λ (e : eqb x n ≡ true). rw (e, eqb-true x n e, gone, and-false (ltb n n), and-false (ltb n n || true)))
-      (λ (e : eqb x n ≡ false). rw (e, or-false (ltb x n))))
+pub column-more : (p : ℕ → Bool) (n w d : ℕ) → n < 64 → d < 2 → eqb d 1 ≡ p n → ((i : ℕ) → bit w i ≡ (ltb i n && p i))
+    → (i : ℕ) → bit (bitOr w ((d * 2 ^ n) % 2 ^ 64)) i ≡ (ltb i (n + 1) && p i)
+column-more p n w d h l is before i =
+    rw (bit-or w ((d * 2 ^ n) % 2 ^ 64) i, before i, bit-shifted d n i l h, is, below-more-test i n)
+    (by-bool (eqb i n)
+    (λ (e : eqb i n ≡ true). rw (e, eqb-true i n e, le-ltb n n (omega arith)))
+    (λ (e : eqb i n ≡ false). rw (e, or-false (ltb i n), or-false (ltb i n && p i))))
+
+-- two columns: of the first 64 rows and of those after them
+
+pub columns-one : (p q : ℕ → Bool) (n low : ℕ) → n ≤ 64 → ((i : ℕ) → q i ≡ p i) → ((i : ℕ) → bit low i ≡ (ltb i n && q i))
+    → (x : ℕ) → member low 0 x ≡ (ltb x n && p x)
+columns-one p q n low h same is x =
+    by-bool (ltb x 64)
+    (λ (e : ltb x 64 ≡ true). member-low low 0 x (ltb-true x 64 e) ∙ is x ∙ rw (same x))
+    (λ (e : ltb x 64 ≡ false).
+    let above : 64 ≤ x = ltb-false x 64 e in
+    member-high low 0 x above ∙ rw (bit-zero (x - 64), le-ltb x n (omega arith)))
+
+pub columns-two : (p q r : ℕ → Bool) (n low high : ℕ) → 64 < n → ((i : ℕ) → q i ≡ p i) → ((i : ℕ) → r i ≡ p (64 + i))
+    → ((i : ℕ) → bit low i ≡ (ltb i 64 && q i)) → ((i : ℕ) → bit high i ≡ (ltb i (n - 64) && r i))
+    → (x : ℕ) → member low high x ≡ (ltb x n && p x)
+columns-two p q r n low high h same same-high is is-high x =
+    by-bool (ltb x 64)
+    (λ (e : ltb x 64 ≡ true).
+    let less : x < 64 = ltb-true x 64 e in
+    member-low low high x less ∙ is x ∙ rw (same x, e, lt-ltb x n (omega arith)))
+    (λ (e : ltb x 64 ≡ false).
+    let above : 64 ≤ x = ltb-false x 64 e in
+    let there : 64 + (x - 64) ≡ x = omega arith in
+    member-high low high x above ∙ is-high (x - 64) ∙ rw (same-high (x - 64), there, shifted-test x above))
+  where
+    shifted-test : (x : ℕ) → 64 ≤ x → ltb (x - 64) (n - 64) ≡ ltb x n
+    shifted-test x above =
+        by-bool (ltb x n)
+        (λ (e : ltb x n ≡ true). let less : x < n = ltb-true x n e in rw (e, lt-ltb (x - 64) (n - 64) (omega arith)))
+        (λ (e : ltb x n ≡ false). let more : n ≤ x = ltb-false x n e in rw (e, le-ltb (x - 64) (n - 64) (omega arith)))
 
 -- a column with a itself
-pub column-rising : (n a : ℕ) (low high : List ℕ) (s r : NodeSet) → a < n → ((x : ℕ) → mem s x ≡ (ltb x n && inRow low high x a)) → Inserted s a r → Rising n a low high r
-column-rising n a low high s r h is with-a x =
+pub column-rising : (n a : ℕ) (rows : List ℕ) (s r : NodeSet) → a < n → ((x : ℕ) → mem s x ≡ (ltb x n && inRow rows x a)) → Inserted s a r → Rising n a rows r
+column-rising n a rows s r h is with-a x =
     with-a x
     ∙ rw (is x)
     (by-bool (eqb x a)
     (λ (e : eqb x a ≡ true). rw (e, eqb-true x a e, lt-ltb a n h))
     (λ (e : eqb x a ≡ false). rw e))
 
-pub rising-below : (n a : ℕ) (low high : List ℕ) (r : NodeSet) → Rising n a low high r → (x : ℕ) → mem r x ≡ true → x < n
-rising-below n a low high r rises x t =
-    ltb-true x n (and-both (ltb x n) (eqb x a || inRow low high x a) (sym (rises x) ∙ t) .0)
+pub rising-below : (n a : ℕ) (rows : List ℕ) (r : NodeSet) → Rising n a rows r → (x : ℕ) → mem r x ≡ true → x < n
+rising-below n a rows r rises x t =
+    ltb-true x n (and-both (ltb x n) (eqb x a || inRow rows x a) (sym (rises x) ∙ t) .0)
 
 -- the members one by one: those that are no longer left are done
 
@@ -106,87 +135,79 @@ left-stays set within first v t = within v (removed-member _ _ _ (first .others)
 
 -- rows joined one by one
 
-pub joined-none : (set : NodeSet) (more : ℕ → Bool) (low high : List ℕ) → Joined (done set set) more low high low high
-joined-none set more low high =
+pub joined-none : (set : NodeSet) (more : ℕ → Bool) (rows : List ℕ) → Joined (done set set) more rows rows
+joined-none set more rows =
     record {
-      low-long = refl;
-      high-long = refl;
-      row-is = λ u v. rw (done-none set u) (sym (or-false (inRow low high u v)));
+      long = refl;
+      row-is = λ u v. rw (done-none set u) (sym (or-false (inRow rows u v)));
     }
 
-pub joined-more : (set more row : NodeSet) {x : ℕ} {left rest joined : NodeSet} {low high low₁ high₁ low₂ high₂ : List ℕ} → mem set x ≡ true → Lowest left x rest
-    → IsRow (inRow low₁ high₁) x row → Union row more joined → RowPut x joined low₁ high₁ low₂ high₂
-    → Joined (done set left) (mem more) low high low₁ high₁ → Joined (done set rest) (mem more) low high low₂ high₂
-joined-more set more row {x} {low = low} {high} in-set first is-row is-joined put before =
+pub joined-more : (set more row : NodeSet) {x : ℕ} {left rest joined : NodeSet} {rows rows₁ rows₂ : List ℕ} → mem set x ≡ true → Lowest left x rest
+    → IsRow (inRow rows₁) x row → Union row more joined → RowPut x joined rows₁ rows₂
+    → Joined (done set left) (mem more) rows rows₁ → Joined (done set rest) (mem more) rows rows₂
+joined-more set more row {x} {rows = rows} in-set first is-row is-joined put before =
     record {
-      low-long = put .low-long ∙ before .low-long;
-      high-long = put .high-long ∙ before .high-long;
+      long = put .long ∙ before .long;
       row-is = λ u v.
           put .row-is u v
           ∙ rw (first .others u)
           (by-bool (eqb u x)
           (λ (e : eqb u x ≡ true).
-          rw (e, eqb-true u x e, is-joined v, is-row v, before .row-is x v, in-set, first .in-set, or-false (inRow low high x v)))
+          rw (e, eqb-true u x e, is-joined v, is-row v, before .row-is x v, in-set, first .in-set, or-false (inRow rows x v)))
           (λ (e : eqb u x ≡ false). rw e (before .row-is u v)));
     }
 
-pub joined-all : (set left : NodeSet) (more : ℕ → Bool) {low high low′ high′ : List ℕ} → Empty left
-    → Joined (done set left) more low high low′ high′ → Joined (mem set) more low high low′ high′
+pub joined-all : (set left : NodeSet) (more : ℕ → Bool) {rows rows′ : List ℕ} → Empty left
+    → Joined (done set left) more rows rows′ → Joined (mem set) more rows rows′
 joined-all set left more none h =
     record {
-      low-long = h .low-long;
-      high-long = h .high-long;
+      long = h .long;
       row-is = λ u v. h .row-is u v ∙ rw (done-all set left none u);
     }
 
 -- an edge: the rows that rise to a, joined with r and its row
-pub joined-extended : (n a r : ℕ) (over more row : NodeSet) {low high low′ high′ : List ℕ} → Rising n a low high over
-    → IsRow (inRow low high) r row → Inserted row r more → Joined (mem over) (mem more) low high low′ high′ → Extended n a r low high low′ high′
+pub joined-extended : (n a r : ℕ) (over more row : NodeSet) {rows rows′ : List ℕ} → Rising n a rows over
+    → IsRow (inRow rows) r row → Inserted row r more → Joined (mem over) (mem more) rows rows′ → Extended n a r rows rows′
 joined-extended n a r over more row rises is-row with-r h =
     record {
-      low-long = h .low-long;
-      high-long = h .high-long;
+      long = h .long;
       row-is = λ u v. h .row-is u v ∙ rw (rises u, with-r v, is-row v);
     }
 
 -- edges one after the other
 
-closed-ext : {e f : ℕ → ℕ → Bool} {low high : List ℕ} → ((u v : ℕ) → e u v ≡ f u v) → Closed e low high → Closed f low high
+closed-ext : {e f : ℕ → ℕ → Bool} {rows : List ℕ} → ((u v : ℕ) → e u v ≡ f u v) → Closed e rows → Closed f rows
 closed-ext same h = rows-map (path-iff (λ u v. (λ t. sym (same u v) ∙ t, λ t. same u v ∙ t))) h
 
-pub adds-ext : {n : ℕ} {f g : ℕ → ℕ → Bool} {low high low′ high′ : List ℕ} → ((u v : ℕ) → f u v ≡ g u v) → Adds n f low high low′ high′ → Adds n g low high low′ high′
+pub adds-ext : {n : ℕ} {f g : ℕ → ℕ → Bool} {rows rows′ : List ℕ} → ((u v : ℕ) → f u v ≡ g u v) → Adds n f rows rows′ → Adds n g rows rows′
 adds-ext same h =
     record {
-      low-long = h .low-long;
-      high-long = h .high-long;
+      long = h .long;
       closed = λ e from c. closed-ext (λ u v. rw (same u v)) (h .closed e from c);
     }
 
-pub adds-none : (n : ℕ) (f : ℕ → ℕ → Bool) (low high : List ℕ) → ((u v : ℕ) → f u v ≡ false) → Adds n f low high low high
-adds-none n f low high never =
+pub adds-none : (n : ℕ) (f : ℕ → ℕ → Bool) (rows : List ℕ) → ((u v : ℕ) → f u v ≡ false) → Adds n f rows rows
+adds-none n f rows never =
     record {
-      low-long = refl;
-      high-long = refl;
+      long = refl;
       closed = λ e from c. closed-ext (λ u v. rw (never u v) (sym (or-false (e u v)))) c;
     }
 
-pub adds-more : {n : ℕ} {f g : ℕ → ℕ → Bool} {low high low₁ high₁ low₂ high₂ : List ℕ} → ((u v : ℕ) → f u v ≡ true → u < n)
-    → Adds n f low high low₁ high₁ → Adds n g low₁ high₁ low₂ high₂ → Adds n (λ u v. f u v || g u v) low high low₂ high₂
+pub adds-more : {n : ℕ} {f g : ℕ → ℕ → Bool} {rows rows₁ rows₂ : List ℕ} → ((u v : ℕ) → f u v ≡ true → u < n)
+    → Adds n f rows rows₁ → Adds n g rows₁ rows₂ → Adds n (λ u v. f u v || g u v) rows rows₂
 adds-more {f = f} {g = g} starts h k =
     record {
-      low-long = k .low-long ∙ h .low-long;
-      high-long = k .high-long ∙ h .high-long;
+      long = k .long ∙ h .long;
       closed = λ e from c.
           closed-ext
           (λ u v. or-assoc (e u v) (f u v) (g u v))
           (k .closed (λ u v. e u v || f u v) (λ u v t. ⊎-elim (from u v) (starts u v) (or-cases (e u v) (f u v) t)) (h .closed e from c));
     }
 
-pub extended-adds : (n a r : ℕ) {low high low′ high′ : List ℕ} → a < n → Extended n a r low high low′ high′ → Adds n (λ u v. eqb u a && eqb v r) low high low′ high′
+pub extended-adds : (n a r : ℕ) {rows rows′ : List ℕ} → a < n → Extended n a r rows rows′ → Adds n (λ u v. eqb u a && eqb v r) rows rows′
 extended-adds n a r ha x =
     record {
-      low-long = x .low-long;
-      high-long = x .high-long;
+      long = x .long;
       closed = λ e from c. rows-map (path-iff (added e)) (extended-rows (λ u v. e u v ≡ true) n a r from ha c x);
     }
   where
@@ -236,7 +257,7 @@ link-present above w u v e =
 pub head-none : (low high : List ℕ) (u v : ℕ) → headIn 0 low high u v ≡ false
 head-none low high u v = rw (le-ltb u 0 (omega arith))
 
-pub head-more : (l : ℕ) (low high : List ℕ) (row : NodeSet) → ((v : ℕ) → mem row v ≡ inRow low high l v) → (u v : ℕ)
+pub head-more : (l : ℕ) (low high : List ℕ) (row : NodeSet) → ((v : ℕ) → mem row v ≡ inPair low high l v) → (u v : ℕ)
     → (headIn l low high u v || headOf l row u v) ≡ headIn (l + 1) low high u v
 head-more l low high row is u v =
     rw (below-more-test u l, is v)
@@ -247,7 +268,7 @@ head-more l low high row is u v =
     (λ (e : eqb u l ≡ false). rw (e, or-false (ltb u l)) (or-false (headIn l low high u v))))
 
 pub head-from : (n l : ℕ) (low high : List ℕ) → l ≤ n → (u v : ℕ) → headIn l low high u v ≡ true → u < n
-head-from n l low high h u v t = omega (arith, ltb-true u l (and-both (ltb u l) (inRow low high u v) t .0))
+head-from n l low high h u v t = omega (arith, ltb-true u l (and-both (ltb u l) (inPair low high u v) t .0))
 
 -- the edges to the members of a row one by one
 

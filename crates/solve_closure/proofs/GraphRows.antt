@@ -7,7 +7,7 @@ use mathlib.Core.Bool.{true, false, false≢true}
 use mathlib.Core.Logic.{⊎-elim, _↔_}
 use native.Mathlib.Omega.{arith}
 use lib.Dec.{ltb}
-use lib.ListN.{length, getD, take}
+use lib.ListN.{getD, take}
 use lib.Seq.{getD-take}
 use borrow.Author.Tests.{lt-ltb}
 use Rattle.base_finite.proofs.Laws.{and-both}
@@ -20,7 +20,8 @@ use Rattle.theory_forest.proofs.Shape.{well-formed-shaped}
 use Rattle.theory_forest.proofs.Table.{or-holds, hangs-parts}
 use Rattle.theory_forest.proofs.Forests.{placing-cases}
 use Rattle.base_tables.specs.Trees.{Parents}
-use Rattle.base_tables.specs.Rows.{inRow, Rows}
+use Rattle.base_tables.specs.Rows.{inRow as inPair}
+use Rattle.base_tables.specs.Sets.{inRow, Long, Rows}
 use Rattle.base_tables.specs.Tables.{Tables}
 use Rattle.base_tables.proofs.TreeLaws.{tree-of, tables-parents, parent-here, has-parent}
 use Rattle.solve_closure.specs.Closing.{Links, linkIn, headIn, Closed, Adds}
@@ -41,11 +42,10 @@ no-path : {u v : ℕ} → Path (λ (x y : ℕ). false ≡ true) u v → ⊥
 no-path (one e) = false≢true e
 no-path (more p e) = false≢true e
 
-pub cleared-closed : {low high : List ℕ} → length low ≡ 128 → length high ≡ 128 → ((u v : ℕ) → inRow low high u v ≡ false) → Closed (λ u v. false) low high
-cleared-closed l h blank =
+pub cleared-closed : {rows : List ℕ} → Long rows → ((u v : ℕ) → inRow rows u v ≡ false) → Closed (λ u v. false) rows
+cleared-closed l blank =
     record {
-      low-long = l;
-      high-long = h;
+      long = l;
       row-is = λ u v. (λ t. absurd (false≢true (sym (blank u v) ∙ t)), λ p. absurd (no-path p));
     }
 
@@ -74,7 +74,7 @@ module _ {n : ℕ} {parents lows highs : List ℕ} {edges : ℕ} (g : Graph) (t 
 
   dominance-head : (u v : ℕ) → (headIn n lows highs u v ≡ true) ↔ DominanceEdge g u v
   dominance-head u v = (
-    λ h. sym (t .holds .heads-are u v) ∙ and-both (ltb u n) (inRow lows highs u v) h .1,
+    λ h. sym (t .holds .heads-are u v) ∙ and-both (ltb u n) (inPair lows highs u v) h .1,
     λ h.
         let same = t .nodes in
         let b = t .holds .dominance-within u v h in
@@ -82,8 +82,8 @@ module _ {n : ℕ} {parents lows highs : List ℕ} {edges : ℕ} (g : Graph) (t 
   )
 
   -- rows that were cleared, then given the tables' edges
-  pub graph-built : {low₀ high₀ low₁ high₁ low high : List ℕ} → Closed (λ u v. false) low₀ high₀ → Adds n (linkIn n parents) low₀ high₀ low₁ high₁
-      → Adds n (headIn n lows highs) low₁ high₁ low high → Rows (Descent g) low high
+  pub graph-built : {rows₀ rows₁ rows : List ℕ} → Closed (λ u v. false) rows₀ → Adds n (linkIn n parents) rows₀ rows₁
+      → Adds n (headIn n lows highs) rows₁ rows → Rows (Descent g) rows
   graph-built start links heads =
       rows-map
       (path-iff (λ u v. or-holds (linkIn n parents u v) (headIn n lows highs u v) (tree-link u v) (dominance-head u v)))
@@ -114,8 +114,8 @@ module _ {n : ℕ} {parents lows highs : List ℕ} {edges : ℕ} (g : Graph) (t 
           link-intro n bytes u v below (λ e. omega (arith, leaf-below g u (b .0))) is,
     )
 
-    pub placing-built : {low₀ high₀ low₁ high₁ low high : List ℕ} → Closed (λ u v. false) low₀ high₀ → Adds n (linkIn n parents) low₀ high₀ low₁ high₁
-        → Adds n (linkIn n bytes) low₁ high₁ low high → Rows (Below g (take n bytes)) low high
+    pub placing-built : {rows₀ rows₁ rows : List ℕ} → Closed (λ u v. false) rows₀ → Adds n (linkIn n parents) rows₀ rows₁
+        → Adds n (linkIn n bytes) rows₁ rows → Rows (Below g (take n bytes)) rows
     placing-built start trees hangings =
         rows-map
         (path-iff (λ u v. or-holds (linkIn n parents u v) (linkIn n bytes u v) (tree-link u v) (hanging-link u v)))

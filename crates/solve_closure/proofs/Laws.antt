@@ -11,16 +11,15 @@ use Rattle.base_finite.proofs.Laws.{and-both, and-intro}
 use Rattle.graph.specs.Graph.{Path, one, more}
 use Rattle.theory_forest.proofs.Closure.{Adding, path-map, adding-closure}
 use Rattle.theory_forest.proofs.Table.{or-holds, and-holds, eqb-holds}
-use Rattle.base_tables.specs.Rows.{inRow, Rows}
+use Rattle.base_tables.specs.Sets.{inRow, Rows}
 use Rattle.solve_closure.specs.Closing.{Extended}
 
 -- equivalent relations
 
-pub rows-map : {R S : ℕ → ℕ → Type 0} {low high : List ℕ} → ((u v : ℕ) → R u v ↔ S u v) → Rows R low high → Rows S low high
+pub rows-map : {R S : ℕ → ℕ → Type 0} {rows : List ℕ} → ((u v : ℕ) → R u v ↔ S u v) → Rows R rows → Rows S rows
 rows-map f h =
     record {
-      low-long = h .low-long;
-      high-long = h .high-long;
+      long = h .long;
       row-is = λ u v. (λ t. f u v .0 (h .row-is u v .0 t), λ s. h .row-is u v .1 (f u v .1 s));
     }
 
@@ -33,23 +32,22 @@ pub path-from : {E : ℕ → ℕ → Type 0} (n : ℕ) → ((u v : ℕ) → E u 
 path-from n w (one {u = u} {v = v} e) = w u v e
 path-from n w (more p e) = path-from n w p
 
-pub extended-rows : (E : ℕ → ℕ → Type 0) (n a r : ℕ) {low high low′ high′ : List ℕ} → ((u v : ℕ) → E u v → u < n) → a < n → Rows (Path E) low high
-    → Extended n a r low high low′ high′ → Rows (Path (Adding E a r)) low′ high′
-extended-rows E n a r {low} {high} {low′} {high′} from ha h x =
+pub extended-rows : (E : ℕ → ℕ → Type 0) (n a r : ℕ) {rows rows′ : List ℕ} → ((u v : ℕ) → E u v → u < n) → a < n → Rows (Path E) rows
+    → Extended n a r rows rows′ → Rows (Path (Adding E a r)) rows′
+extended-rows E n a r {rows} {rows′} from ha h x =
     record {
-      low-long = x .low-long ∙ h .low-long;
-      high-long = x .high-long ∙ h .high-long;
+      long = x .long ∙ h .long;
       row-is = λ u v.
           let law = adding-closure E a r u v in
-          let test = or-holds (inRow low high u v) ((ltb u n && (eqb u a || inRow low high u a)) && (eqb v r || inRow low high r v)) (h .row-is u v) (and-holds (ltb u n && (eqb u a || inRow low high u a)) (eqb v r || inRow low high r v) (starts u) (or-holds (eqb v r) (inRow low high r v) (eqb-holds v r) (h .row-is r v))) in
+          let test = or-holds (inRow rows u v) ((ltb u n && (eqb u a || inRow rows u a)) && (eqb v r || inRow rows r v)) (h .row-is u v) (and-holds (ltb u n && (eqb u a || inRow rows u a)) (eqb v r || inRow rows r v) (starts u) (or-holds (eqb v r) (inRow rows r v) (eqb-holds v r) (h .row-is r v))) in
           (λ t. law .1 (test .0 (sym (x .row-is u v) ∙ t)), λ p. x .row-is u v ∙ test .1 (law .0 p));
     }
   where
-    starts : (u : ℕ) → ((ltb u n && (eqb u a || inRow low high u a)) ≡ true) ↔ ((u ≡ a) ⊎ Path E u a)
+    starts : (u : ℕ) → ((ltb u n && (eqb u a || inRow rows u a)) ≡ true) ↔ ((u ≡ a) ⊎ Path E u a)
     starts u =
-        let holds = or-holds (eqb u a) (inRow low high u a) (eqb-holds u a) (h .row-is u a) in (
-          λ t. holds .0 (and-both (ltb u n) (eqb u a || inRow low high u a) t .1),
+        let holds = or-holds (eqb u a) (inRow rows u a) (eqb-holds u a) (h .row-is u a) in (
+          λ t. holds .0 (and-both (ltb u n) (eqb u a || inRow rows u a) t .1),
           λ s.
               let below : u < n = ⊎-elim (λ (i : u ≡ a). omega arith) (λ (p : Path E u a). path-from n from p) s in
-              and-intro (ltb u n) (eqb u a || inRow low high u a) (lt-ltb u n below) (holds .1 s),
+              and-intro (ltb u n) (eqb u a || inRow rows u a) (lt-ltb u n below) (holds .1 s),
         )

@@ -9,23 +9,22 @@ use lib.ListN.{length, getD}
 use Rattle.base_nodeset.specs.Set.{mem}
 use Rattle.base_nodeset.specs.declared.NodeSet.{NodeSet}
 use Rattle.graph.specs.Graph.{Path, none}
-use Rattle.base_tables.specs.Rows.{inRow, Rows}
+use Rattle.base_tables.specs.Rows.{inRow as inPair}
+use Rattle.base_tables.specs.Sets.{inRow, Rows}
 
 -- a and the nodes below n whose rows have a
-abbrev pub Rising : ℕ → ℕ → List ℕ → List ℕ → NodeSet → Type 0
-Rising n a low high r = (x : ℕ) → mem r x ≡ (ltb x n && (eqb x a || inRow low high x a))
+abbrev pub Rising : ℕ → ℕ → List ℕ → NodeSet → Type 0
+Rising n a rows r = (x : ℕ) → mem r x ≡ (ltb x n && (eqb x a || inRow rows x a))
 
 -- Each row that `over` holds of was joined with what `more` holds of; every other row is as it was.
-pub record Joined (over more : ℕ → Bool) (low high low′ high′ : List ℕ) : Type 0 where
-  pub low-long : length low′ ≡ length low
-  pub high-long : length high′ ≡ length high
-  pub row-is : (u v : ℕ) → inRow low′ high′ u v ≡ (inRow low high u v || over u && more v)
+pub record Joined (over more : ℕ → Bool) (rows rows′ : List ℕ) : Type 0 where
+  pub long : length rows′ ≡ length rows
+  pub row-is : (u v : ℕ) → inRow rows′ u v ≡ (inRow rows u v || over u && more v)
 
 -- Each row below n that is a's or has a was joined with r and row r; every other row is as it was.
-pub record Extended (n a r : ℕ) (low high low′ high′ : List ℕ) : Type 0 where
-  pub low-long : length low′ ≡ length low
-  pub high-long : length high′ ≡ length high
-  pub row-is : (u v : ℕ) → inRow low′ high′ u v ≡ (inRow low high u v || (ltb u n && (eqb u a || inRow low high u a)) && (eqb v r || inRow low high r v))
+pub record Extended (n a r : ℕ) (rows rows′ : List ℕ) : Type 0 where
+  pub long : length rows′ ≡ length rows
+  pub row-is : (u v : ℕ) → inRow rows′ u v ≡ (inRow rows u v || (ltb u n && (eqb u a || inRow rows u a)) && (eqb v r || inRow rows r v))
 
 -- A table that gives each node a node above it, or `none`.
 pub record Links (n : ℕ) (links : List ℕ) : Type 0 where
@@ -46,14 +45,13 @@ headOf l row u v = eqb u l && mem row v
 
 -- the edges from the nodes below n to the members of their rows
 abbrev pub headIn : ℕ → List ℕ → List ℕ → ℕ → ℕ → Bool
-headIn n low high u v = ltb u n && inRow low high u v
+headIn n low high u v = ltb u n && inPair low high u v
 
 -- the rows hold the closure of e
-abbrev pub Closed : (ℕ → ℕ → Bool) → List ℕ → List ℕ → Type 0
-Closed e low high = Rows (Path (λ u v. e u v ≡ true)) low high
+abbrev pub Closed : (ℕ → ℕ → Bool) → List ℕ → Type 0
+Closed e rows = Rows (Path (λ u v. e u v ≡ true)) rows
 
 -- Where the rows held the closure of edges that start below n, they now hold that of these and of f's.
-pub record Adds (n : ℕ) (f : ℕ → ℕ → Bool) (low high low′ high′ : List ℕ) : Type 0 where
-  pub low-long : length low′ ≡ length low
-  pub high-long : length high′ ≡ length high
-  pub closed : (e : ℕ → ℕ → Bool) → ((u v : ℕ) → e u v ≡ true → u < n) → Closed e low high → Closed (λ u v. e u v || f u v) low′ high′
+pub record Adds (n : ℕ) (f : ℕ → ℕ → Bool) (rows rows′ : List ℕ) : Type 0 where
+  pub long : length rows′ ≡ length rows
+  pub closed : (e : ℕ → ℕ → Bool) → ((u v : ℕ) → e u v ≡ true → u < n) → Closed e rows → Closed (λ u v. e u v || f u v) rows′

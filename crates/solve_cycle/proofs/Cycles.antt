@@ -32,7 +32,7 @@ use Rattle.base_tables.specs.Tables.{Tables}
 use Rattle.solve_cycle.specs.Thinning.{Unsolved, TakenOut, Thinned, before}
 use Rattle.base_tables.specs.Trees.{tiedIn}
 use Rattle.solve_cycle.specs.Searching.{joinedIn, seenIn, Queue, Searched}
-use Rattle.solve_cycle.specs.Spelling.{kindIn, Back, Trail, Linked, Ring}
+use Rattle.solve_cycle.specs.Spelling.{kindIn, Back, WayBack, Linked, Ring}
 use Rattle.solve_cycle.proofs.Thins.{removed-tables, row-within, thinned-minimal, thinned-shaped}
 use Rattle.solve_cycle.proofs.Searches.{few-found, seen-other}
 use Rattle.solve_cycle.proofs.Spells.{drop-more}
@@ -172,7 +172,7 @@ module _
     (old new : List ℕ)
     (c : ℕ)
     (long : 2 * n ≤ length old)
-    (t : Trail parents queue came at 0 old new c) where
+    (t : WayBack parents queue came at 0 old new c) where
   in-room : c + 1 ≤ n
   in-room = let some = few-found n (joinedIn parents low high) queue came place found q in omega (arith, t .few)
 
@@ -211,9 +211,9 @@ module _
       }
 
 -- copies of the tables
-abbrev pub copied : (n : ℕ) (parents low high low₁ high₁ : List ℕ) → low₁ ≡ low → high₁ ≡ high → Unsolved n parents low high → Unsolved n parents low₁ high₁
-copied n parents low high low₁ high₁ e f s =
-    record { graph = s .graph; edges = s .edges; tables = rw (e, f) (s .tables); unsolvable = s .unsolvable }
+abbrev pub copied : (n n₁ : ℕ) (parents low high low₁ high₁ : List ℕ) → n₁ ≡ n → low₁ ≡ low → high₁ ≡ high → Unsolved n parents low high → Unsolved n₁ parents low₁ high₁
+copied n n₁ parents low high low₁ high₁ m e f s =
+    record { graph = s .graph; edges = s .edges; tables = rw (m, e, f) (s .tables); unsolvable = s .unsolvable }
 
 -- the edge that closes the cycle
 

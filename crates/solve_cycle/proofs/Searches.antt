@@ -2,22 +2,48 @@
 use Prim.Native.Nat.{ℕ, _+_, _≤_, _<_}
 use mathlib.Core.Path.{_≡_, refl, sym, _∙_}
 use mathlib.Core.List.{List}
-use mathlib.Core.Bool.{Bool, true, false, not, _||_, true≢false}
+use mathlib.Core.Bool.{Bool, true, false, not, _&&_, _||_, true≢false}
 use native.Mathlib.Omega.{arith}
 use lib.Dec.{eqb, ltb}
 use lib.ListN.{getD, set, length-set, replicate, length-replicate, getD-replicate}
 use lib.Seq.{getD-set-same, getD-set-other}
-use borrow.Author.Tests.{eq-eqb, ne-eqb, eqb-true, eqb-false, ltb-true, ltb-false, not-true, not-false}
+use borrow.Author.Tests.{eq-eqb, ne-eqb, eqb-true, eqb-false, lt-ltb, le-ltb, ltb-true, ltb-false, not-true, not-false}
 use Rattle.base_finite.specs.Below.{count}
-use Rattle.base_finite.proofs.Laws.{by-bool, or-right, count-one-more, count-le, count-none}
+use Rattle.base_finite.proofs.Laws.{by-bool, or-false, or-right, and-false, count-one-more, count-le, count-none}
 use Rattle.graph.specs.Graph.{none}
-use Rattle.base_tables.specs.Rows.{inRow}
+use Rattle.base_nodeset.specs.Set.{mem, Empty, Inserted}
+use Rattle.base_nodeset.specs.declared.NodeSet.{NodeSet}
+use Rattle.base_tables.specs.Rows.{inRow as inPair}
+use Rattle.base_tables.specs.Sets.{Long, inRow, RowPut}
 use Rattle.base_tables.specs.Trees.{tiedIn}
-use Rattle.solve_cycle.specs.Searching.{joinedIn, seenIn, Queue, Grown, Reached, Visited, Unsearched, Searched}
+use Rattle.solve_closure.proofs.Edges.{below-more-test}
+use Rattle.solve_cycle.specs.Searching.{joinedIn, Near, seenIn, Queue, Grown, Reached, Visited, Unsearched, Searched}
 
 -- below m + 1 is m, or below m
 pub last-or-old : {C : Type 0} (k m : ℕ) → k < m + 1 → (k ≡ m → C) → (k < m → C) → C
 last-or-old k m h f g = by-bool (ltb k m) (λ t. g (ltb-true k m t)) (λ t. f (omega (arith, ltb-false k m t)))
+
+-- the members of a set, node by node
+
+pub nodes-none : (p : ℕ → Bool) (s : NodeSet) → Empty s → (x : ℕ) → mem s x ≡ (ltb x 0 && p x)
+nodes-none p s none x = rw (le-ltb x 0 (omega arith)) (none x)
+
+module _ (p : ℕ → Bool) (n : ℕ) (s : NodeSet) (before : (x : ℕ) → mem s x ≡ (ltb x n && p x)) where
+  pub nodes-there : (t : NodeSet) → p n ≡ true → Inserted s n t → (x : ℕ) → mem t x ≡ (ltb x (n + 1) && p x)
+  nodes-there t there is x =
+      is x
+      ∙ rw (before x, below-more-test x n)
+      (by-bool (eqb x n)
+      (λ (e : eqb x n ≡ true). rw (e, eqb-true x n e, there, le-ltb n n (omega arith)))
+      (λ (e : eqb x n ≡ false). rw (e, or-false (ltb x n))))
+
+  pub nodes-not : p n ≡ false → (x : ℕ) → mem s x ≡ (ltb x (n + 1) && p x)
+  nodes-not gone x =
+      before x
+      ∙ rw (below-more-test x n)
+      (by-bool (eqb x n)
+      (λ (e : eqb x n ≡ true). rw (e, eqb-true x n e, gone, and-false (ltb n n), and-false (ltb n n || true)))
+      (λ (e : eqb x n ≡ false). rw (e, or-false (ltb x n))))
 
 -- the answers of `joined`, by cases
 
@@ -26,15 +52,31 @@ module _ (parents low high : List ℕ) (u v : ℕ) where
   unfolding joinedIn
   joined-first b e t = let y : tiedIn parents u v ≡ true = sym e ∙ t in rw y
 
-  pub joined-second : (b : Bool) → b ≡ inRow low high u v → b ≡ true → true ≡ joinedIn parents low high u v
+  pub joined-second : (b : Bool) → b ≡ inPair low high u v → b ≡ true → true ≡ joinedIn parents low high u v
   unfolding joinedIn
   joined-second b e t =
-      let y : inRow low high u v ≡ true = sym e ∙ t in
+      let y : inPair low high u v ≡ true = sym e ∙ t in
       rw y (sym (or-right (tiedIn parents u v) true refl))
 
-  pub joined-third : (a b d : Bool) → a ≡ tiedIn parents u v → b ≡ inRow low high u v → d ≡ inRow low high v u → a ≡ false → b ≡ false → d ≡ joinedIn parents low high u v
+  pub joined-third : (a b d : Bool) → a ≡ tiedIn parents u v → b ≡ inPair low high u v → d ≡ inPair low high v u → a ≡ false → b ≡ false → d ≡ joinedIn parents low high u v
   unfolding joinedIn
   joined-third a b d e f h s t = rw (← e, s, ← f, t) h
+
+-- the rows of what is joined, one more
+
+pub near-none : (n : ℕ) (joined : ℕ → ℕ → Bool) (near : List ℕ) → Long near → Near n joined 0 near
+near-none n joined near long = record { long = long; row-is = λ u v h. absurd (omega arith) }
+
+pub near-more : (n : ℕ) (joined : ℕ → ℕ → Bool) (k : ℕ) (near near′ : List ℕ) (row : NodeSet) → Near n joined k near → ((v : ℕ) → mem row v ≡ (ltb v n && joined k v)) → RowPut k row near near′ → Near n joined (k + 1) near′
+near-more n joined k near near′ row so is put =
+    record {
+      long = put .long ∙ so .long;
+      row-is = λ u v h.
+          put .row-is u v
+          ∙ last-or-old u k h
+          (λ (e : u ≡ k). rw (eq-eqb u k e, e) (is v))
+          (λ (l : u < k). rw (ne-eqb u k (λ (e : u ≡ k). omega arith)) (so .row-is u v l));
+    }
 
 -- seen or not
 
@@ -231,6 +273,31 @@ searched-more n joined root done queue came place found queue′ came′ place�
           (λ (e : i ≡ done). v .reached w b (rw e at j′))
           (λ (m : i < done). v .grown .still w (s .closed i w m b j′));
     }
+
+-- a search of the rows is one of what they hold
+pub near-searched : (n : ℕ) (joined : ℕ → ℕ → Bool) (near : List ℕ) (root : ℕ) (queue came place : List ℕ) (found : ℕ) → Near n joined n near
+    → Searched n (inRow near) root found queue came place found → Searched n joined root found queue came place found
+near-searched n joined near root queue came place found is s =
+    let q = s .holds in
+    record {
+      holds = record {
+        queue-long = q .queue-long;
+        came-long = q .came-long;
+        place-long = q .place-long;
+        some = q .some;
+        found-are = q .found-are;
+        came-from = λ k p h.
+            let b = q .came-from k p h in
+            (b .0, sym (same (getD queue (getD came k 0) 0) (getD queue k 0) (q .node-at (getD came k 0) (omega (arith, b .0)) .0) (q .node-at k h .0)) ∙ b .1);
+        node-at = q .node-at;
+        place-of = q .place-of;
+      };
+      first = s .first;
+      closed = λ i w l h j. s .closed i w l h (same (getD queue i 0) w (q .node-at i l .0) h ∙ j);
+    }
+  where
+    same : (u v : ℕ) → u < n → v < n → inRow near u v ≡ joined u v
+    same u v a b = is .row-is u v a ∙ rw (lt-ltb v n b)
 
 -- places that are all `none`
 pub unsearched : (m : ℕ) → m ≡ 128 → Unsearched (replicate m 0) (replicate m 0) (replicate m 255)

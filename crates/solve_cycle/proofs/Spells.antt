@@ -8,7 +8,7 @@ use lib.ListN.{length, getD, set, drop, length-set}
 use lib.Seq.{getD-set-same, getD-set-other, drop-set-lt, drop-drop}
 use Rattle.graph.specs.Cycle.{node, kind}
 use Rattle.base_tables.specs.Trees.{tiedIn}
-use Rattle.solve_cycle.specs.Spelling.{kindIn, Back, Trail}
+use Rattle.solve_cycle.specs.Spelling.{kindIn, Back, WayBack}
 use Rattle.solve_cycle.proofs.Searches.{last-or-old}
 
 -- the kind of a step, by the answer b of `tied`
@@ -25,9 +25,9 @@ kind-dominance parents u v b e t = let z : tiedIn parents u v ≡ false = sym e 
 pub drop-more : (a b : List ℕ) (m k : ℕ) → drop m a ≡ drop m b → drop (m + k) a ≡ drop (m + k) b
 drop-more a b m k e = sym (drop-drop k m a) ∙ ap (drop k) e ∙ drop-drop k m b
 
-pub trail-start : (parents queue came : List ℕ) (at : ℕ) (out : List ℕ) → 0 < length out
-    → Trail parents queue came at at (set out 0 (getD queue at 0)) (set out 0 (getD queue at 0)) 0
-trail-start parents queue came at out h =
+pub way-start : (parents queue came : List ℕ) (at : ℕ) (out : List ℕ) → 0 < length out
+    → WayBack parents queue came at at (set out 0 (getD queue at 0)) (set out 0 (getD queue at 0)) 0
+way-start parents queue came at out h =
     let first : getD (set out 0 (getD queue at 0)) 0 0 ≡ getD queue at 0 = getD-set-same out 0 (getD queue at 0) 0 h in
     record {
       long = refl;
@@ -42,8 +42,8 @@ trail-start parents queue came at out h =
     }
 
 -- the bytes before the first store are those at entry
-pub trail-end : (parents queue came : List ℕ) (at : ℕ) (old : List ℕ) (x : ℕ) (new : List ℕ) (c : ℕ) → Trail parents queue came at 0 (set old 0 x) new c → Trail parents queue came at 0 old new c
-trail-end parents queue came at old x new c t =
+pub way-end : (parents queue came : List ℕ) (at : ℕ) (old : List ℕ) (x : ℕ) (new : List ℕ) (c : ℕ) → WayBack parents queue came at 0 (set old 0 x) new c → WayBack parents queue came at 0 old new c
+way-end parents queue came at old x new c t =
     record {
       long = t .long ∙ simp length-set;
       few = t .few;
@@ -94,7 +94,7 @@ module _
     (old new : List ℕ)
     (c : ℕ)
     (b : Back queue came at)
-    (t : Trail parents queue came at k old new c)
+    (t : WayBack parents queue came at k old new c)
     (more : 0 < k)
     (long : 2 * at < length old)
     (edge : ℕ)
@@ -108,8 +108,8 @@ module _
   room : 2 * c + 2 < length new
   room = let f = t .few in omega (arith, t .long)
 
-  pub trail-more : Trail parents queue came at (getD came k 0) old (stored new c edge (getD queue (getD came k 0) 0)) (c + 1)
-  trail-more =
+  pub way-more : WayBack parents queue came at (getD came k 0) old (stored new c edge (getD queue (getD came k 0) 0)) (c + 1)
+  way-more =
       let v : ℕ = getD queue (getD came k 0) 0 in
       let less = earlier in
       let f = t .few in

@@ -1,7 +1,7 @@
 -- Dropping edges one by one: the rest of a graph's edges is a graph in tables again, and an edge that was needed stays
 -- needed when others go. So when all edges are settled, those kept are a minimal set.
 use Prim.Native.Nat.{ℕ, _+_, _≤_, _<_}
-use mathlib.Core.Path.{_≡_, refl, sym, subst₂, _∙_}
+use mathlib.Core.Path.{_≡_, refl, sym, subst, subst₂, _∙_}
 use mathlib.Core.List.{List, [], _∷_}
 use mathlib.Core.Bool.{Bool, true, false, not, _&&_, _||_, true≢false}
 use mathlib.Core.Logic.{⊎-elim, _↔_}
@@ -24,7 +24,10 @@ use Rattle.theory_edges.specs.Edges.{over}
 use Rattle.theory_cycle.proofs.Minimal.{Minimal, still-needed}
 use Rattle.base_tables.specs.Rows.{inRow, IsRow, RowPut}
 use Rattle.base_tables.specs.Tables.{Tables}
-use Rattle.solve_cycle.specs.Thinning.{Unsolved, TakenOut, Thinned, andEdge, before}
+use Rattle.base_tables.specs.Trees.{Parents, TreeOf, Filled, Bounded, TreesOf}
+use Rattle.base_tables.specs.declared.trees.Trees.{Trees}
+use Rattle.base_tables.proofs.TreeLaws.{own-is}
+use Rattle.solve_cycle.specs.Thinning.{Unsolved, Known, TakenOut, Thinned, andEdge, before}
 
 -- the list without an edge
 
@@ -104,6 +107,26 @@ row-out l r row is out put =
           ∙ by-bool (eqb a l)
           (λ (e : eqb a l ≡ true). rw (e, eqb-true a l e) (out b ∙ rw (is b)))
           (λ (e : eqb a l ≡ false). rw e);
+    }
+
+-- the sets read off the parents, and the owners filled in
+pub known : {n : ℕ} {parents old owners : List ℕ} {t : Trees} → Parents n parents → Bounded t → t .n ≡ n → ((g : Graph) → Shaped g → TreeOf g n parents → TreesOf g t)
+    → Filled n parents old owners n → n ≤ length old → Known t parents owners
+known {n} {parents} {old} {owners} {t} held bounded same trees filled long =
+    record {
+      parents-are = subst (λ (k : ℕ). Parents k parents) (sym same) held;
+      owners-are = record {
+        bounded = bounded;
+        long = omega (arith, filled .long);
+        within = λ v h. omega (arith, filled .within v (omega arith));
+      };
+      fits = λ g shaped tree.
+          let here : TreeOf g n parents = subst (λ (k : ℕ). TreeOf g k parents) same tree in
+          record {
+            shaped = shaped;
+            trees = trees g shaped here;
+            owners-are = λ v h. filled .top-is v (omega arith) ∙ own-is shaped here v (omega arith);
+          };
     }
 
 -- one edge settled

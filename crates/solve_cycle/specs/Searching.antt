@@ -3,18 +3,24 @@
 use Prim.Native.Nat.{ℕ, _≤_, _<_}
 use mathlib.Core.Path.{_≡_}
 use mathlib.Core.List.{List}
-use mathlib.Core.Bool.{Bool, true, not, _||_}
-use lib.Dec.{eqb}
+use mathlib.Core.Bool.{Bool, true, not, _&&_, _||_}
+use lib.Dec.{eqb, ltb}
 use lib.ListN.{length, getD}
 use Rattle.base_finite.specs.Below.{count}
 use Rattle.graph.specs.Graph.{none}
-use Rattle.base_tables.specs.Rows.{inRow}
+use Rattle.base_tables.specs.Rows.{inRow as inPair}
+use Rattle.base_tables.specs.Sets.{Long, inRow}
 use Rattle.base_tables.specs.Trees.{tiedIn}
 
 -- an edge joins the two
 unfoldable pub joinedIn : List ℕ → List ℕ → List ℕ → ℕ → ℕ → Bool
 unfolding tiedIn
-joinedIn parents low high u v = tiedIn parents u v || (inRow low high u v || inRow low high v u)
+joinedIn parents low high u v = tiedIn parents u v || (inPair low high u v || inPair low high v u)
+
+-- the first k rows have of each node the nodes, below n, that are joined to it
+pub record Near (n : ℕ) (joined : ℕ → ℕ → Bool) (k : ℕ) (near : List ℕ) : Type 0 where
+  pub long : Long near
+  pub row-is : (u v : ℕ) → u < k → inRow near u v ≡ (ltb v n && joined u v)
 
 unfoldable pub seenIn : List ℕ → ℕ → Bool
 seenIn place v = not (eqb (getD place v 0) none)

@@ -26,7 +26,7 @@ pub record Back (queue came : List ℕ) (at : ℕ) : Type 0 where
   pub earlier : (k : ℕ) → 0 < k → k ≤ at → getD came k 0 < k
 
 -- c steps back, from the place `at` to the place k
-pub record Trail (parents queue came : List ℕ) (at k : ℕ) (old new : List ℕ) (c : ℕ) : Type 0 where
+pub record WayBack (parents queue came : List ℕ) (at k : ℕ) (old new : List ℕ) (c : ℕ) : Type 0 where
   pub long : length new ≡ length old
   pub few : c + k ≤ at
   pub first : node new 0 ≡ getD queue at 0

@@ -11,6 +11,9 @@ use Rattle.graph.specs.Order.{removed}
 use Rattle.graph.specs.Placing.{Solvable}
 use Rattle.base_tables.specs.Rows.{inRow}
 use Rattle.base_tables.specs.Tables.{Tables}
+use Rattle.base_tables.specs.Trees.{Parents, TreeOf, Owners, Fits}
+use Rattle.base_tables.specs.declared.trees.Trees.{Trees}
+use Rattle.theory_forest.specs.Shape.{Shaped}
 use Rattle.theory_forest.specs.Table.{Among}
 use Rattle.theory_edges.specs.Edges.{over}
 
@@ -20,6 +23,12 @@ pub record Unsolved (n : ℕ) (parents low high : List ℕ) : Type 0 where
   pub edges : ℕ
   pub tables : Tables graph n parents low high edges
   pub unsolvable : Solvable graph → ⊥
+
+-- the trees and the owners are those of every graph whose trees the parents are
+pub record Known (t : Trees) (parents owners : List ℕ) : Type 0 where
+  pub parents-are : Parents (t .n) parents
+  pub owners-are : Owners t owners
+  pub fits : (g : Graph) → Shaped g → TreeOf g (t .n) parents → Fits g t owners
 
 -- the edge from l to r is out of the rows
 pub record TakenOut (l r : ℕ) (low high low′ high′ : List ℕ) : Type 0 where

@@ -5,13 +5,17 @@ mod search;
 
 use base_tables::rows::copy_rows;
 use base_tables::rows::set_at;
+use base_tables::trees::owners;
+use base_tables::trees::read_trees;
 use base_tables::trees::tied;
 use graph::DOMINANCE;
 use graph::NONE;
 use graph::TREE;
+use minimal::Edge;
 use minimal::first_leaf;
 use minimal::minimize;
 use minimal::take_out;
+use search::near_rows;
 use search::search;
 ghost use mathlib.Core.Path.{_≡_};
 ghost use mathlib.Core.Bool.{true};
@@ -19,7 +23,7 @@ ghost use Prim.Native.Nat.{_*_, _≤_, _<_};
 ghost use lib.ListN.{length, take, drop};
 ghost use Rattle.graph.specs.Cycle.{hypernormalCycle};
 ghost use Rattle.solve_cycle.specs.Thinning.{Unsolved};
-ghost use Rattle.solve_cycle.specs.Spelling.{kindIn, Back, Trail, Linked, Ring};
+ghost use Rattle.solve_cycle.specs.Spelling.{kindIn, Back, WayBack, Linked, Ring};
 
 fn kind(parent: &[u8], u: usize, v: usize) -> u8
     requires { ⌜ (length (now parent) ≡ 128) × (u < 128) × (v < 128) ⌝ }
@@ -29,9 +33,9 @@ fn kind(parent: &[u8], u: usize, v: usize) -> u8
 }
 
 // The way back from a place of the queue to its first, all but the last kind. Gives the number of steps.
-fn trail(parent: &[u8], queue: &[u8], came: &[u8], at: usize, out: &mut [u8]) -> usize
+fn way_back(parent: &[u8], queue: &[u8], came: &[u8], at: usize, out: &mut [u8]) -> usize
     requires { ⌜ (length (now parent) ≡ 128) × Back (now queue) (now came) at × (2 * at < length (now out)) ⌝ }
-    ensures { λ c. ⌜ Trail (now (parent .entry)) (now (queue .entry)) (now (came .entry)) at 0 (now (out .entry)) (now (out .exit)) c ⌝ }
+    ensures { λ c. ⌜ WayBack (now (parent .entry)) (now (queue .entry)) (now (came .entry)) at 0 (now (out .entry)) (now (out .exit)) c ⌝ }
 {
     out[0] = queue[at];
     let mut k = at;
@@ -48,25 +52,20 @@ fn trail(parent: &[u8], queue: &[u8], came: &[u8], at: usize, out: &mut [u8]) ->
     c
 }
 
-// A way from l to r, closed by the edge between them.
-fn ring(
-    parent: &[u8],
-    low: &[u64],
-    high: &[u64],
-    n: usize,
-    l: usize,
-    r: usize,
-    out: &mut [u8],
-) -> usize
-    requires { ⌜ Linked n (now parent) (now low) (now high) l r × (2 * n ≤ length (now out)) ⌝ }
-    ensures { λ c. ⌜ Ring n (now (parent .entry)) (now (low .entry)) (now (high .entry)) l r (now (out .entry)) (now (out .exit)) c ⌝ }
+// A way from the edge's leaf to its root, closed by the edge.
+fn ring(parent: &[u8], low: &[u64], high: &[u64], n: usize, edge: Edge, out: &mut [u8]) -> usize
+    requires { ⌜ Linked n (now parent) (now low) (now high) (edge .leaf) (edge .root) × (2 * n ≤ length (now out)) ⌝ }
+    ensures { λ c. ⌜ Ring n (now (parent .entry)) (now (low .entry)) (now (high .entry)) (edge .leaf) (edge .root) (now (out .entry)) (now (out .exit)) c ⌝ }
 {
+    let mut near = [0u64; 256];
+    near_rows(parent, low, high, n, &mut near);
     let mut queue = [0u8; 128];
     let mut came = [0u8; 128];
     let mut place = [NONE; 128];
-    search(parent, low, high, n, r, &mut queue, &mut came, &mut place);
+    search(&near, n, edge.root, &mut queue, &mut came, &mut place);
+    let l = edge.leaf;
     let at = place[l] as usize;
-    let c = trail(parent, &queue, &came, at, out);
+    let c = way_back(parent, &queue, &came, at, out);
     out[2 * c + 1] = DOMINANCE;
     c + 1
 }
@@ -87,12 +86,16 @@ pub fn witness(
         ⌝ }
     ensures rest { λ c. ⌜ drop (2 * c) (now (out .exit)) ≡ drop (2 * c) (now (out .entry)) ⌝ }
 {
+    let trees = read_trees(parent, n);
+    let mut owner = [0u8; 128];
+    owners(parent, n, &mut owner);
     let mut low = [0u64; 128];
     let mut high = [0u64; 128];
     copy_rows(heads_low, heads_high, &mut low, &mut high);
-    minimize(parent, n, &mut low, &mut high);
-    let l = first_leaf(&low, &high, n);
-    let r = set_at(&low, &high, l).lowest();
-    take_out(&mut low, &mut high, l, r);
-    ring(parent, &low, &high, n, l, r, out)
+    minimize(parent, &owner, trees, &mut low, &mut high);
+    let leaf = first_leaf(&low, &high, n);
+    let root = set_at(&low, &high, leaf).lowest();
+    let edge = Edge { leaf, root };
+    take_out(&mut low, &mut high, edge);
+    ring(parent, &low, &high, n, edge, out)
 }

@@ -2,6 +2,7 @@
 use base_nodeset::Popped;
 use base_tables::rows::put_at;
 use base_tables::rows::set_at;
+use base_tables::trees::Trees;
 use solve_closure::graph_rows;
 use solve_test::solvable;
 ghost use mathlib.Core.Path.{_≡_};
@@ -13,52 +14,63 @@ ghost use Rattle.graph.specs.Graph.{Graph};
 ghost use Rattle.graph.specs.Placing.{Solvable};
 ghost use Rattle.base_tables.specs.Rows.{Long, inRow};
 ghost use Rattle.base_tables.specs.Tables.{Tables};
-ghost use Rattle.base_tables.specs.Trees.{Parents};
-ghost use Rattle.solve_cycle.specs.Thinning.{Unsolved, TakenOut, Thinned, andEdge, before};
+ghost use Rattle.solve_cycle.specs.Thinning.{Unsolved, Known, TakenOut, Thinned, andEdge, before};
+
+// A dominance edge.
+pub struct Edge {
+    pub leaf: usize,
+    pub root: usize,
+}
 
 // Whether the graph in the tables has a solved form.
-fn has_form(parent: &[u8], n: usize, low: &[u64], high: &[u64]) -> bool
-    requires { ⌜ Parents n (now parent) × Long (now low) (now high) ⌝ }
+fn has_form(parent: &[u8], owner: &[u8], trees: Trees, low: &[u64], high: &[u64]) -> bool
+    requires { ⌜ Known trees (now parent) (now owner) × Long (now low) (now high) ⌝ }
     ensures { λ r. ⌜
-        ((g : Graph) (edges : ℕ) → Tables g n (now (parent .entry)) (now (low .entry)) (now (high .entry)) edges → (r ≡ true) ↔ Solvable g)
+        ((g : Graph) (edges : ℕ) → Tables g (trees .n) (now (parent .entry)) (now (low .entry)) (now (high .entry)) edges → (r ≡ true) ↔ Solvable g)
         ⌝ }
 {
-    let mut rows_low = [0u64; 128];
-    let mut rows_high = [0u64; 128];
-    graph_rows(parent, low, high, n, &mut rows_low, &mut rows_high);
-    solvable(parent, n, &rows_low, &rows_high)
+    let mut rows = [0u64; 256];
+    graph_rows(parent, low, high, trees.n, &mut rows);
+    solvable(owner, trees, &rows)
 }
 
-// The edge from l to r, taken out.
-pub fn take_out(low: &mut [u64], high: &mut [u64], l: usize, r: usize)
-    requires { ⌜ Long (now low) (now high) × (l < 128) × (r < 128) ⌝ }
-    ensures { λ _. ⌜ TakenOut l r (now (low .entry)) (now (high .entry)) (now (low .exit)) (now (high .exit)) ⌝ }
+// The edge, taken out.
+pub fn take_out(low: &mut [u64], high: &mut [u64], edge: Edge)
+    requires { ⌜ Long (now low) (now high) × (edge .leaf < 128) × (edge .root < 128) ⌝ }
+    ensures { λ _. ⌜ TakenOut (edge .leaf) (edge .root) (now (low .entry)) (now (high .entry)) (now (low .exit)) (now (high .exit)) ⌝ }
 {
-    let rest = set_at(low, high, l).without(r);
-    put_at(low, high, l, rest);
+    let rest = set_at(low, high, edge.leaf).without(edge.root);
+    put_at(low, high, edge.leaf, rest);
 }
 
-// The edge from l to r goes, unless the rest has a solved form.
-fn settle(parent: &[u8], n: usize, low: &mut [u64], high: &mut [u64], l: usize, r: usize)
-    requires { ⌜ Parents n (now parent) × Long (now low) (now high) × (l < 128) × (r < 128) ⌝ }
+// The edge goes, unless the rest has a solved form.
+fn settle(parent: &[u8], owner: &[u8], trees: Trees, low: &mut [u64], high: &mut [u64], edge: Edge)
+    requires { ⌜ Known trees (now parent) (now owner) × Long (now low) (now high) × (edge .leaf < 128) × (edge .root < 128) ⌝ }
     ensures { λ _. ⌜
-        ((g : Graph) (settled : ℕ → ℕ → Bool) → Thinned g n (now (parent .entry)) (now (low .entry)) (now (high .entry)) settled →
-        Thinned g n (now (parent .entry)) (now (low .exit)) (now (high .exit)) (andEdge settled l r))
+        ((g : Graph) (settled : ℕ → ℕ → Bool) → Thinned g (trees .n) (now (parent .entry)) (now (low .entry)) (now (high .entry)) settled →
+        Thinned g (trees .n) (now (parent .entry)) (now (low .exit)) (now (high .exit)) (andEdge settled (edge .leaf) (edge .root)))
         ⌝ }
 {
-    let row = set_at(low, high, l);
-    take_out(low, high, l, r);
-    if has_form(parent, n, low, high) {
-        put_at(low, high, l, row);
+    let row = set_at(low, high, edge.leaf);
+    take_out(low, high, edge);
+    if has_form(parent, owner, trees, low, high) {
+        put_at(low, high, edge.leaf, row);
     }
 }
 
 // Each edge from l, settled.
-fn settle_row(parent: &[u8], n: usize, low: &mut [u64], high: &mut [u64], l: usize)
-    requires { ⌜ Parents n (now parent) × Long (now low) (now high) × (l < 128) ⌝ }
+fn settle_row(
+    parent: &[u8],
+    owner: &[u8],
+    trees: Trees,
+    low: &mut [u64],
+    high: &mut [u64],
+    l: usize,
+)
+    requires { ⌜ Known trees (now parent) (now owner) × Long (now low) (now high) × (l < 128) ⌝ }
     ensures { λ _. ⌜
-        ((g : Graph) → Thinned g n (now (parent .entry)) (now (low .entry)) (now (high .entry)) (before l) →
-        Thinned g n (now (parent .entry)) (now (low .exit)) (now (high .exit)) (before (l + 1)))
+        ((g : Graph) → Thinned g (trees .n) (now (parent .entry)) (now (low .entry)) (now (high .entry)) (before l) →
+        Thinned g (trees .n) (now (parent .entry)) (now (low .exit)) (now (high .exit)) (before (l + 1)))
         ⌝ }
 {
     let mut left = set_at(low, high, l);
@@ -66,21 +78,23 @@ fn settle_row(parent: &[u8], n: usize, low: &mut [u64], high: &mut [u64], l: usi
         let Popped::Member(r, rest) = left.pop() else {
             return;
         };
-        settle(parent, n, low, high, l, r);
+        let edge = Edge { leaf: l, root: r };
+        settle(parent, owner, trees, low, high, edge);
         left = rest;
     }
 }
 
 // Each edge, settled: those that are left are a minimal set.
-pub fn minimize(parent: &[u8], n: usize, low: &mut [u64], high: &mut [u64])
-    requires { ⌜ Parents n (now parent) × Long (now low) (now high) ⌝ }
+pub fn minimize(parent: &[u8], owner: &[u8], trees: Trees, low: &mut [u64], high: &mut [u64])
+    requires { ⌜ Known trees (now parent) (now owner) × Long (now low) (now high) ⌝ }
     ensures { λ _. ⌜
-        ((s : Unsolved n (now (parent .entry)) (now (low .entry)) (now (high .entry))) →
-        Thinned (s .graph) n (now (parent .entry)) (now (low .exit)) (now (high .exit)) (before n))
+        ((s : Unsolved (trees .n) (now (parent .entry)) (now (low .entry)) (now (high .entry))) →
+        Thinned (s .graph) (trees .n) (now (parent .entry)) (now (low .exit)) (now (high .exit)) (before (trees .n)))
         ⌝ }
 {
+    let n = trees.n;
     for l in 0..n {
-        settle_row(parent, n, low, high, l);
+        settle_row(parent, owner, trees, low, high, l);
     }
 }
 

@@ -7,19 +7,14 @@ use lib.ListN.{length, drop}
 use Rattle.graph.specs.Graph.{Graph}
 use Rattle.graph.specs.Order.{entry}
 use Rattle.theory_list.specs.Readings.{listed}
-use Rattle.solve_branch.specs.Levels.{Saved}
 use Rattle.solve_branch.specs.States.{Stands}
 use Rattle.solve_numbered.specs.declared.Reached.{Reached}
 use Rattle.solve_numbered.specs.declared.Reached.the-variants.{At, Only}
 
 -- to the reading with the number k, or there are fewer
-abbrev pub Reaches : Graph → List ℕ → List ℕ → List ℕ → List ℕ → ℕ → Reached → Type 0
-Reaches g uppers lowers low high k (At depth) = Stands g uppers lowers low high depth (k - 1)
-Reaches g uppers lowers low high k (Only all) = (length (listed g) ≡ all) × (all < k)
-
--- the levels before it are saved
-abbrev pub SavedAt : Graph → List ℕ → List ℕ → List ℕ → List ℕ → Reached → Type 0
-SavedAt g uppers lowers saved-low saved-high r = (depth : ℕ) → r ≡ At depth → Saved g uppers lowers saved-low saved-high depth
+abbrev pub Reaches : Graph → List ℕ → List ℕ → ℕ → Reached → Type 0
+Reaches g trail states k (At at) = Stands g trail states at (k - 1)
+Reaches g trail states k (Only all) = (length (listed g) ≡ all) × (all < k)
 
 -- whether there is one with the number k, and the lent bytes before and after
 pub record Finds (g : Graph) (k : ℕ) (old : List ℕ) (r : Bool) (new : List ℕ) : Type 0 where

@@ -18,7 +18,7 @@ use Rattle.graph.specs.Graph.{Graph}
 use Rattle.graph.specs.Order.{Kept, Choice}
 use Rattle.theory_list.proofs.Redundancy.{kept-within}
 use Rattle.theory_list.specs.Choosing.{Unforked}
-use Rattle.base_tables.specs.Rows.{inRow}
+use Rattle.base_tables.specs.Sets.{inRow}
 use Rattle.solve_reduce.specs.Reduced.{secondLowest, several, LooplessForm}
 
 -- the numbers but the lowest
@@ -59,10 +59,10 @@ module _ (p : ℕ → Bool) (b : ℕ) (is : b ≡ secondLowest p) (some : b < 12
 pub lowest-below : (s : NodeSet) (b : ℕ) → b ≡ secondLowest (mem s) → b < 128 → least 128 (mem s) < b
 lowest-below s b is some = lowest-less (mem s) b is some
 
-module _ (g : Graph) (n : ℕ) (low high : List ℕ) (is : LooplessForm g n low high) where
+module _ (g : Graph) (n : ℕ) (sets : List ℕ) (is : LooplessForm g n sets) where
   -- the leaves whose edges to v stay
   abbrev leaves : ℕ → ℕ → Bool
-  leaves v l = inRow low high (n + v) l
+  leaves v l = inRow sets (n + v) l
 
   module _ (v : ℕ) (within : v < n) where
     in-leaves : (l : ℕ) → Kept g l v → leaves v l ≡ true
@@ -89,7 +89,7 @@ module _ (g : Graph) (n : ℕ) (low high : List ℕ) (is : LooplessForm g n low 
     one-leaf : several (leaves v) ≡ false → (l m : ℕ) → Kept g l v → Kept g m v → l ≡ m
     one-leaf one l m k j = only-lowest one l k ∙ sym (only-lowest one m j)
 
-  module _ (forks : NodeSet) (are : (w : ℕ) → mem forks w ≡ inRow low high (n + n) w) (v : ℕ) (lowest : v ≡ least 128 (mem forks)) where
+  module _ (forks : NodeSet) (are : (w : ℕ) → mem forks w ≡ inRow sets (n + n) w) (v : ℕ) (lowest : v ≡ least 128 (mem forks)) where
     -- no root below v has two leaves
     below-v : (w l m : ℕ) → w < n → w < v → Kept g l w → Kept g m w → l ≡ m
     below-v w l m small-w less k j =

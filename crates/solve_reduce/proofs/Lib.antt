@@ -1,4 +1,3 @@
-pub mod Ends
 pub mod Staying
 pub mod Choices
 pub mod Settling

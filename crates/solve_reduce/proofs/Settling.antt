@@ -21,7 +21,7 @@ use Rattle.theory_list.proofs.Redundancy.{kept-holds}
 use Rattle.theory_list.specs.Choosing.{lowestAbove}
 use Rattle.theory_list.specs.Settled.{within, settled}
 use Rattle.theory_list.proofs.Settled.{settled-length, settled-at}
-use Rattle.base_tables.specs.Rows.{inRow}
+use Rattle.base_tables.specs.Sets.{inRow}
 use Rattle.solve_reduce.specs.Reduced.{LooplessForm}
 
 -- a search that goes on behind n finds nothing more, as a node
@@ -42,25 +42,25 @@ least-within n p h =
     rw (out, least-none n p (any-false n p t), le-ltb n n (omega arith)))
 
 -- what is to stand at v
-abbrev pub lowest : ℕ → List ℕ → List ℕ → ℕ → ℕ
-lowest n low high v = within n (least 128 (λ (l : ℕ). inRow low high (n + v) l))
+abbrev pub lowest : ℕ → List ℕ → ℕ → ℕ
+lowest n sets v = within n (least 128 (λ (l : ℕ). inRow sets (n + v) l))
 
-module _ (g : Graph) (n : ℕ) (low high : List ℕ) (is : LooplessForm g n low high) where
-  lowest-settled : (v : ℕ) → v < n → lowest n low high v ≡ at (settled g) v
+module _ (g : Graph) (n : ℕ) (sets : List ℕ) (is : LooplessForm g n sets) where
+  lowest-settled : (v : ℕ) → v < n → lowest n sets v ≡ at (settled g) v
   unfolding lowestAbove kept
   lowest-settled v h =
       let few : n ≤ 128 = omega (arith, is .nodes, is .shaped .few-nodes) in
       let below : v < g .nodes = omega (arith, is .nodes) in
-      let same : (l : ℕ) → inRow low high (n + v) l ≡ kept g l v = λ l.
-      test-ext (inRow low high (n + v) l) (kept g l v)
+      let same : (l : ℕ) → inRow sets (n + v) l ≡ kept g l v = λ l.
+      test-ext (inRow sets (n + v) l) (kept g l v)
       (λ t. kept-holds g (is .shaped) (is .loopless) l v .1 (is .reduced .edges (is .loopless) v l h .0 t))
       (λ t. is .reduced .edges (is .loopless) v l h .1 (kept-holds g (is .shaped) (is .loopless) l v .0 t)) in
-      least-within n (λ (l : ℕ). inRow low high (n + v) l) few
-      ∙ ap (within n) (least-ext n (λ (l : ℕ). inRow low high (n + v) l) (λ (l : ℕ). kept g l v) (λ l _. same l))
+      least-within n (λ (l : ℕ). inRow sets (n + v) l) few
+      ∙ ap (within n) (least-ext n (λ (l : ℕ). inRow sets (n + v) l) (λ (l : ℕ). kept g l v) (λ l _. same l))
       ∙ ap (λ (m : ℕ). within m (least m (λ (l : ℕ). kept g l v))) (is .nodes)
       ∙ sym (settled-at g v below)
 
-  pub settles : (old new : List ℕ) → n ≤ length new → Filled (lowest n low high) n old new → take n new ≡ settled g
+  pub settles : (old new : List ℕ) → n ≤ length new → Filled (lowest n sets) n old new → take n new ≡ settled g
   settles old new long so =
       let taken : length (take n new) ≡ n = length-take-le n new long in
       ext-getD 0 (take n new) (settled g) (taken ∙ is .nodes ∙ sym (settled-length g)) (λ v h.
@@ -81,6 +81,6 @@ pub byte-none : (l n : ℕ) → n ≤ l → none ≡ within n l
 unfolding within
 byte-none l n h = rw (le-ltb l n h)
 
-pub lowest-is : (n : ℕ) (low high : List ℕ) (v : ℕ) (from : NodeSet) → ((l : ℕ) → mem from l ≡ inRow low high (n + v) l) → (l : ℕ) → l ≡ least 128 (mem from) → (b : ℕ) → b ≡ within n l → b ≡ lowest n low high v
-lowest-is n low high v from are l i b e =
-    e ∙ ap (within n) (i ∙ least-ext 128 (mem from) (λ (k : ℕ). inRow low high (n + v) k) (λ k _. are k))
+pub lowest-is : (n : ℕ) (sets : List ℕ) (v : ℕ) (from : NodeSet) → ((l : ℕ) → mem from l ≡ inRow sets (n + v) l) → (l : ℕ) → l ≡ least 128 (mem from) → (b : ℕ) → b ≡ within n l → b ≡ lowest n sets v
+lowest-is n sets v from are l i b e =
+    e ∙ ap (within n) (i ∙ least-ext 128 (mem from) (λ (k : ℕ). inRow sets (n + v) k) (λ k _. are k))

@@ -1,4 +1,4 @@
--- What the tables hold: a graph's reduced form, after Rule 2, as 2n + 1 sets in two lists of words.
+-- What the tables hold: a graph's reduced form, after Rule 2, as 2n + 1 sets.
 use Prim.Native.Nat.{ℕ, _+_, _<_}
 use mathlib.Core.Path.{_≡_}
 use mathlib.Core.List.{List}
@@ -9,20 +9,11 @@ use lib.ListN.{length}
 use Rattle.base_finite.specs.Below.{least}
 use Rattle.base_nodeset.specs.Set.{mem}
 use Rattle.base_nodeset.specs.declared.NodeSet.{NodeSet}
-use Rattle.graph.specs.Graph.{Graph, root, leaf, Descent}
+use Rattle.graph.specs.Graph.{Graph, Descent}
 use Rattle.graph.specs.Order.{Kept}
 use Rattle.theory_forest.specs.Shape.{Shaped}
 use Rattle.theory_list.specs.Redundancy.{Loopless}
-use Rattle.base_tables.specs.Rows.{inRow}
-
-pub record Ends (g : Graph) (n : ℕ) (leaves roots : NodeSet) : Type 0 where
-  pub nodes : n ≡ g .nodes
-  pub leaves-are : (v : ℕ) → mem leaves v ≡ leaf g v
-  pub roots-are : (v : ℕ) → mem roots v ≡ root g v
-
-pub record RootsAre (g : Graph) (n : ℕ) (roots : NodeSet) : Type 0 where
-  pub nodes : n ≡ g .nodes
-  pub are : (v : ℕ) → mem roots v ≡ root g v
+use Rattle.base_tables.specs.Sets.{inRow}
 
 -- the lowest but one of the numbers with p, and 128 where there are no two
 abbrev pub secondLowest : (ℕ → Bool) → ℕ
@@ -32,44 +23,49 @@ abbrev pub several : (ℕ → Bool) → Bool
 several p = ltb (secondLowest p) 128
 
 -- the set has the nodes that several of the leaves in the tables have edges to
-abbrev pub Forks : ℕ → List ℕ → List ℕ → NodeSet → Type 0
-Forks n low high s = (v : ℕ) → v < n → mem s v ≡ several (λ (l : ℕ). inRow low high (n + v) l)
+abbrev pub Forks : ℕ → List ℕ → NodeSet → Type 0
+Forks n sets s = (v : ℕ) → v < n → mem s v ≡ several (λ (l : ℕ). inRow sets (n + v) l)
 
--- the sets of a graph with 128 nodes
+-- the words of a graph with 128 nodes
 abbrev pub wide : ℕ
-wide = 257
+wide = 514
 
--- the tables have room for 128 nodes
-abbrev pub Wide : List ℕ → List ℕ → Type 0
-Wide low high = (length low ≡ wide) × (length high ≡ wide)
+-- there is room for 128 nodes
+abbrev pub Wide : List ℕ → Type 0
+Wide sets = length sets ≡ wide
 
 -- In the first n sets the nodes under each node, in the next n the leaves whose edges to it stay, in the last the nodes that
 -- several of them have edges to. With a cycle in the graph what stays is of no use, and nothing is said of it.
-pub record Reduced (g : Graph) (n : ℕ) (low high : List ℕ) : Type 0 where
-  pub wide : Wide low high
-  pub under : (u v : ℕ) → u < n → (inRow low high u v ≡ true) ↔ Descent g u v
-  pub edges : Loopless g → (v l : ℕ) → v < n → (inRow low high (n + v) l ≡ true) ↔ Kept g l v
-  pub forks : (v : ℕ) → v < n → inRow low high (n + n) v ≡ several (λ (l : ℕ). inRow low high (n + v) l)
+pub record Reduced (g : Graph) (n : ℕ) (sets : List ℕ) : Type 0 where
+  pub wide : Wide sets
+  pub under : (u v : ℕ) → u < n → (inRow sets u v ≡ true) ↔ Descent g u v
+  pub edges : Loopless g → (v l : ℕ) → v < n → (inRow sets (n + v) l ≡ true) ↔ Kept g l v
+  pub forks : (v : ℕ) → v < n → inRow sets (n + n) v ≡ several (λ (l : ℕ). inRow sets (n + v) l)
 
-pub record LooplessForm (g : Graph) (n : ℕ) (low high : List ℕ) : Type 0 where
+pub record LooplessForm (g : Graph) (n : ℕ) (sets : List ℕ) : Type 0 where
   pub shaped : Shaped g
   pub loopless : Loopless g
   pub nodes : n ≡ g .nodes
-  pub reduced : Reduced g n low high
+  pub reduced : Reduced g n sets
 
 -- What the parts do to the tables.
 
 -- no edge stays, and what is under each node is as before
-pub record Blank (n : ℕ) (low high low′ high′ : List ℕ) : Type 0 where
-  pub wide : Wide low′ high′
-  pub same : (u v : ℕ) → u < n → inRow low′ high′ u v ≡ inRow low high u v
-  pub none : (v l : ℕ) → v < n → inRow low′ high′ (n + v) l ≡ false
+pub record Blank (n : ℕ) (sets sets′ : List ℕ) : Type 0 where
+  pub wide : Wide sets′
+  pub same : (u v : ℕ) → u < n → inRow sets′ u v ≡ inRow sets u v
+  pub none : (v l : ℕ) → v < n → inRow sets′ (n + v) l ≡ false
 
--- edges from the leaves `less` to the members of the set go, and edges from the leaves `more` to them come
-pub record Revised (n : ℕ) (set less more : NodeSet) (low high low′ high′ : List ℕ) : Type 0 where
-  pub wide : Wide low′ high′
-  pub same : (u v : ℕ) → u < n → inRow low′ high′ u v ≡ inRow low high u v
-  pub edges : (v l : ℕ) → v < n → inRow low′ high′ (n + v) l ≡ cond (mem set v) (inRow low high (n + v) l && not (mem less l) || mem more l) (inRow low high (n + v) l)
+-- edges from the leaves `less` to the node x go, and edges from the leaves `more` to it come
+pub record RevisedAt (n x : ℕ) (less more : NodeSet) (sets sets′ : List ℕ) : Type 0 where
+  pub wide : Wide sets′
+  pub row-is : (u l : ℕ) → inRow sets′ u l ≡ cond (eqb u (n + x)) (inRow sets (n + x) l && not (mem less l) || mem more l) (inRow sets u l)
+
+-- the same of each member of the set
+pub record Revised (n : ℕ) (set less more : NodeSet) (sets sets′ : List ℕ) : Type 0 where
+  pub wide : Wide sets′
+  pub same : (u v : ℕ) → u < n → inRow sets′ u v ≡ inRow sets u v
+  pub edges : (v l : ℕ) → v < n → inRow sets′ (n + v) l ≡ cond (mem set v) (inRow sets (n + v) l && not (mem less l) || mem more l) (inRow sets (n + v) l)
 
 -- v is a member where the set has several, and else is not
 abbrev pub Noted : NodeSet → ℕ → NodeSet → NodeSet → Type 0

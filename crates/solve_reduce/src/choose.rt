@@ -1,6 +1,6 @@
 // The choice of Rule 3: the lowest root with two edges that stay, and of their leaves the two lowest.
 use crate::forks::second_lowest;
-use base_tables::rows::set_at;
+use base_tables::sets::set_at;
 ghost use Prim.Native.Nat.{_≤_};
 ghost use Rattle.graph.specs.Graph.{Graph};
 ghost use Rattle.solve_reduce.specs.Reduced.{Wide, LooplessForm};
@@ -12,16 +12,16 @@ pub enum Fork {
 }
 
 // (v, a, b) of the choice. The test of b is for the bounds alone: a fork has its two leaves.
-pub fn choose(low: &[u64], high: &[u64], n: usize) -> Fork
-    requires { ⌜ Wide (now low) (now high) × (n ≤ 128) ⌝ }
+pub fn choose(sets: &[u64], n: usize) -> Fork
+    requires { ⌜ Wide (now sets) × (n ≤ 128) ⌝ }
     ensures { λ r. ⌜ Bounded n r ⌝ }
-    ensures { λ r. ⌜ ((g : Graph) → LooplessForm g n (now (low .entry)) (now (high .entry)) → Chosen g r) ⌝ }
+    ensures { λ r. ⌜ ((g : Graph) → LooplessForm g n (now (sets .entry)) → Chosen g r) ⌝ }
 {
-    let v = set_at(low, high, n + n).lowest();
+    let v = set_at(sets, n + n).lowest();
     if n <= v {
         return Fork::None;
     }
-    let from = set_at(low, high, n + v);
+    let from = set_at(sets, n + v);
     let b = second_lowest(from);
     if n <= b {
         return Fork::None;

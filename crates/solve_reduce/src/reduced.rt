@@ -5,8 +5,9 @@ use crate::heads::heads;
 use base_nodeset::NodeSet;
 use base_nodeset::Popped;
 use base_tables::rows::copy_first;
-use base_tables::rows::put_at;
-use base_tables::rows::set_at;
+use base_tables::sets::put_at;
+use base_tables::sets::set_at;
+use base_tables::trees::Trees;
 use solve_closure::add_edge;
 ghost use mathlib.Core.Path.{_≡_};
 ghost use mathlib.Core.Bool.{true};
@@ -16,45 +17,59 @@ ghost use Rattle.graph.specs.Graph.{Graph, Descent};
 ghost use Rattle.graph.specs.Order.{adding};
 ghost use Rattle.theory_forest.specs.Shape.{Shaped};
 ghost use Rattle.theory_list.specs.Keeping.{Fresh};
-ghost use Rattle.base_tables.specs.Rows.{Long, Rows};
-ghost use Rattle.solve_reduce.specs.Reduced.{Wide, Forks, Ends, RootsAre, Reduced, Blank, Revised};
+ghost use Rattle.base_tables.specs.Sets.{Long, Rows};
+ghost use Rattle.base_tables.specs.Trees.{Bounded, TreesOf};
+ghost use Rattle.solve_reduce.specs.Reduced.{Wide, Forks, Reduced, Blank, Revised, RevisedAt};
 
-// The words of each list, for 128 nodes.
-pub const WIDE: usize = 257;
-
-// A reduced form over another.
-pub fn copy(from_low: &[u64], from_high: &[u64], n: usize, low: &mut [u64], high: &mut [u64])
-    requires { ⌜ Wide (now «from_low») (now «from_high») × Wide (now low) (now high) × (n ≤ 128) ⌝ }
-    ensures { λ _. ⌜ ((g : Graph) → Reduced g n (now («from_low» .entry)) (now («from_high» .entry)) → Reduced g n (now (low .exit)) (now (high .exit))) ⌝ }
-{
-    let words = n + n + 1;
-    copy_first(from_low, low, words);
-    copy_first(from_high, high, words);
-}
+// The words for 128 nodes.
+pub const WIDE: usize = 514;
 
 // No edges.
-fn clear(low: &mut [u64], high: &mut [u64], n: usize)
-    requires { ⌜ Wide (now low) (now high) × (n ≤ 128) ⌝ }
-    ensures { λ _. ⌜ Blank n (now (low .entry)) (now (high .entry)) (now (low .exit)) (now (high .exit)) ⌝ }
+fn clear(sets: &mut [u64], n: usize)
+    requires { ⌜ Wide (now sets) × (n ≤ 128) ⌝ }
+    ensures { λ _. ⌜ Blank n (now (sets .entry)) (now (sets .exit)) ⌝ }
 {
     for v in 0..n {
-        put_at(low, high, n + v, NodeSet::empty());
+        put_at(sets, n + v, NodeSet::empty());
     }
 }
 
-// Of each member of the set the leaves `less` go and the leaves `more` come; the forks then.
+// Of v the leaves `less` go and the leaves `more` come; the forks then. Most sets stay as they are.
+fn revise_one(
+    sets: &mut [u64],
+    n: usize,
+    v: usize,
+    less: NodeSet,
+    more: NodeSet,
+    forks: NodeSet,
+) -> NodeSet
+    requires { ⌜ Wide (now sets) × (n ≤ 128) × (v < n) ⌝ }
+    ensures { λ _. ⌜ RevisedAt n v less more (now (sets .entry)) (now (sets .exit)) ⌝ }
+    ensures { λ r. ⌜ (Forks n (now (sets .entry)) forks → Forks n (now (sets .exit)) r) ⌝ }
+{
+    let old = set_at(sets, n + v);
+    let from = old.difference(less).union(more);
+    if old.low == from.low {
+        if old.high == from.high {
+            return forks;
+        }
+    }
+    put_at(sets, n + v, from);
+    noted(forks, v, from)
+}
+
+// The same of each member of the set.
 fn revise(
-    low: &mut [u64],
-    high: &mut [u64],
+    sets: &mut [u64],
     n: usize,
     set: NodeSet,
     less: NodeSet,
     more: NodeSet,
     forks: NodeSet,
 ) -> NodeSet
-    requires { ⌜ Wide (now low) (now high) × (n ≤ 128) × ((v : ℕ) → mem set v ≡ true → v < n) ⌝ }
-    ensures { λ _. ⌜ Revised n set less more (now (low .entry)) (now (high .entry)) (now (low .exit)) (now (high .exit)) ⌝ }
-    ensures { λ r. ⌜ (Forks n (now (low .entry)) (now (high .entry)) forks → Forks n (now (low .exit)) (now (high .exit)) r) ⌝ }
+    requires { ⌜ Wide (now sets) × (n ≤ 128) × ((v : ℕ) → mem set v ≡ true → v < n) ⌝ }
+    ensures { λ _. ⌜ Revised n set less more (now (sets .entry)) (now (sets .exit)) ⌝ }
+    ensures { λ r. ⌜ (Forks n (now (sets .entry)) forks → Forks n (now (sets .exit)) r) ⌝ }
 {
     let mut forked = forks;
     let mut left = set;
@@ -62,58 +77,48 @@ fn revise(
         let Popped::Member(v, rest) = left.pop() else {
             return forked;
         };
-        let from = set_at(low, high, n + v).difference(less).union(more);
-        put_at(low, high, n + v, from);
-        forked = noted(forked, v, from);
+        forked = revise_one(sets, n, v, less, more, forked);
         left = rest;
     }
 }
 
 // The reduced form of the graph with these rows.
-pub fn reduce(
-    base_low: &[u64],
-    base_high: &[u64],
-    n: usize,
-    leaves: NodeSet,
-    roots: NodeSet,
-    low: &mut [u64],
-    high: &mut [u64],
-)
-    requires { ⌜ Long (now «base_low») (now «base_high») × Wide (now low) (now high) × (n ≤ 128) × ((v : ℕ) → mem roots v ≡ true → v < n) ⌝ }
+pub fn reduce(rows: &[u64], trees: Trees, sets: &mut [u64])
+    requires { ⌜ Long (now rows) × Bounded trees × Wide (now sets) ⌝ }
     ensures { λ _. ⌜
-        ((g : Graph) → Shaped g → Ends g n leaves roots → Rows (Descent g) (now («base_low» .entry)) (now («base_high» .entry)) →
-        Reduced g n (now (low .exit)) (now (high .exit)))
+        ((g : Graph) → Shaped g → TreesOf g trees → Rows (Descent g) (now (rows .entry)) → Reduced g (trees .n) (now (sets .exit)))
         ⌝ }
 {
-    copy_first(base_low, low, n);
-    copy_first(base_high, high, n);
-    clear(low, high, n);
+    let n = trees.n;
+    copy_first(rows, sets, 2 * n);
+    clear(sets, n);
     let mut forks = NodeSet::empty();
-    let mut left = leaves;
+    let mut left = trees.leaves;
     loop {
         let Popped::Member(l, rest) = left.pop() else {
             break;
         };
-        let to = heads(base_low, base_high, roots, l);
-        forks = revise(low, high, n, to, NodeSet::empty(), NodeSet::only(l), forks);
+        let to = heads(rows, trees.roots, l);
+        forks = revise(sets, n, to, NodeSet::empty(), NodeSet::only(l), forks);
         left = rest;
     }
-    put_at(low, high, n + n, forks);
+    put_at(sets, n + n, forks);
 }
 
 // An edge more, from the leaf a to the root r. Edges from a or above it to r or below it have become redundant.
-pub fn add(low: &mut [u64], high: &mut [u64], n: usize, roots: NodeSet, a: usize, r: usize)
-    requires { ⌜ Wide (now low) (now high) × (n ≤ 128) × (a < n) × (r < n) × ((v : ℕ) → mem roots v ≡ true → v < n) ⌝ }
+pub fn add(sets: &mut [u64], trees: Trees, a: usize, r: usize)
+    requires { ⌜ Wide (now sets) × Bounded trees × (a < trees .n) × (r < trees .n) ⌝ }
     ensures { λ _. ⌜
-        ((g : Graph) → Shaped g → RootsAre g n roots → Fresh g a r → Reduced g n (now (low .entry)) (now (high .entry)) →
-        Reduced (adding g a r) n (now (low .exit)) (now (high .exit)))
+        ((g : Graph) → Shaped g → TreesOf g trees → Fresh g a r → Reduced g (trees .n) (now (sets .entry)) →
+        Reduced (adding g a r) (trees .n) (now (sets .exit)))
         ⌝ }
 {
-    let below = set_at(low, high, r).with(r).intersection(roots);
-    let forks = set_at(low, high, n + n);
-    let above = add_edge(low, high, n, a, r);
-    let fewer = revise(low, high, n, below, above, NodeSet::empty(), forks);
-    let from = set_at(low, high, n + r).with(a);
-    put_at(low, high, n + r, from);
-    put_at(low, high, n + n, noted(fewer, r, from));
+    let n = trees.n;
+    let below = set_at(sets, r).with(r).intersection(trees.roots);
+    let forks = set_at(sets, n + n);
+    let above = add_edge(sets, n, a, r);
+    let fewer = revise(sets, n, below, above, NodeSet::empty(), forks);
+    let from = set_at(sets, n + r).with(a);
+    put_at(sets, n + r, from);
+    put_at(sets, n + n, noted(fewer, r, from));
 }

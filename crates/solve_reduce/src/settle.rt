@@ -1,5 +1,5 @@
 // Where no choice is left: each root under the leaf of its one edge that stays.
-use base_tables::rows::set_at;
+use base_tables::sets::set_at;
 use graph::NONE;
 ghost use mathlib.Core.Path.{_≡_};
 ghost use Prim.Native.Nat.{_≤_};
@@ -19,12 +19,12 @@ fn byte(l: usize, n: usize) -> u8
     NONE
 }
 
-pub fn settle(low: &[u64], high: &[u64], n: usize, out: &mut [u8])
-    requires { ⌜ Wide (now low) (now high) × (n ≤ 128) × (n ≤ length (now out)) ⌝ }
+pub fn settle(sets: &[u64], n: usize, out: &mut [u8])
+    requires { ⌜ Wide (now sets) × (n ≤ 128) × (n ≤ length (now out)) ⌝ }
     ensures { λ _. ⌜ drop n (now (out .exit)) ≡ drop n (now (out .entry)) ⌝ }
-    ensures { λ _. ⌜ ((g : Graph) → LooplessForm g n (now (low .entry)) (now (high .entry)) → take n (now (out .exit)) ≡ settled g) ⌝ }
+    ensures { λ _. ⌜ ((g : Graph) → LooplessForm g n (now (sets .entry)) → take n (now (out .exit)) ≡ settled g) ⌝ }
 {
     for v in 0..n {
-        out[v] = byte(set_at(low, high, n + v).lowest(), n);
+        out[v] = byte(set_at(sets, n + v).lowest(), n);
     }
 }

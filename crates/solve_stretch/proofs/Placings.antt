@@ -1,5 +1,5 @@
 -- Placings one after the other: one more of them where the walk stands, and what is said where no more come.
-use Prim.Native.Nat.{ℕ, zero, suc, _+_, _-_, _≤_, _<_, min}
+use Prim.Native.Nat.{ℕ, zero, suc, _+_, _-_, _%_, _≤_, _<_, min}
 use mathlib.Core.Path.{_≡_, refl, sym, ap, subst, _∙_}
 use mathlib.Core.List.{List, [], _∷_, _++_, append-assoc, append-nil}
 use mathlib.Core.Logic.{_⊎_, inl}
@@ -7,18 +7,20 @@ use native.Mathlib.Omega.{arith}
 use lib.ListN.{length, take, drop, take-append-drop, length-append, length-drop}
 use lib.Seq.{length-take-le, take-all, drop-length, drop-drop, getD-drop, take-append-add, drop-append-add}
 use borrow.Rule.Slice.PartMut.{midOf, putMid}
-use Rattle.base_nodeset.specs.declared.NodeSet.{NodeSet}
 use Rattle.graph.specs.Graph.{Graph}
 use Rattle.graph.specs.Order.{entry, limit}
 use Rattle.theory_list.specs.Readings.{listed}
 use Rattle.theory_list.specs.Settled.{settled}
 use Rattle.solve_reduce.specs.Reduced.{LooplessForm}
-use Rattle.theory_walk.specs.Walk.{graphAt}
 use Rattle.theory_walk.proofs.States.{at-below, at-entry}
-use Rattle.solve_branch.specs.Decisions.{decisions}
-use Rattle.solve_branch.specs.Fits.{Fits}
+use Rattle.base_tables.specs.Trees.{Fits}
+use Rattle.base_tables.specs.declared.trees.Trees.{Trees}
+use Rattle.solve_branch.specs.Decisions.{reached}
+use Rattle.solve_branch.specs.Levels.{state}
 use Rattle.solve_branch.specs.States.{Stands}
-use Rattle.solve_branch.proofs.Walks.{stands-given}
+use Rattle.solve_branch.specs.declared.levels.Level.{Level}
+use Rattle.solve_branch.proofs.Walks.{stands-form}
+use Rattle.solve_numbered.proofs.Numbers.{reached-at, reached-only}
 use Rattle.base_finite.specs.Stores.{joined}
 use Rattle.solve_numbered.specs.Numbered.{Reaches}
 use Rattle.solve_numbered.specs.declared.Reached.{Reached}
@@ -111,23 +113,23 @@ handed-none g passed old =
       rest = refl;
     }
 
-module _ {g : Graph} {n : ℕ} {parents owners : List ℕ} {roots : NodeSet} (f : Fits g n parents owners roots) {uppers lowers low high : List ℕ} {depth last : ℕ} (x : Stands g uppers lowers low high depth last) where
-  pub handed-more : (passed : ℕ) (old now₁ : List ℕ) (end : ℕ) (new : List ℕ) → end + n ≤ length now₁ → length new ≡ length now₁ → drop (end + n) new ≡ drop (end + n) now₁
-      → ((h : Graph) → LooplessForm h n low high → take (end + n) new ≡ take end now₁ ++ settled h)
-      → Handed g passed old last end now₁ → Handed g passed old (last + 1) (end + n) new
+module _ {g : Graph} {t : Trees} {owners : List ℕ} (f : Fits g t owners) {trail states : List ℕ} {at : Level} {last : ℕ} (x : Stands g trail states at last) where
+  pub handed-more : (passed : ℕ) (old now₁ : List ℕ) (end : ℕ) (new : List ℕ) → end + t .n ≤ length now₁ → length new ≡ length now₁ → drop (end + t .n) new ≡ drop (end + t .n) now₁
+      → ((h : Graph) → LooplessForm h (t .n) (state (at .depth % 32) states) → take (end + t .n) new ≡ take end now₁ ++ settled h)
+      → Handed g passed old last end now₁ → Handed g passed old (last + 1) (end + t .n) new
   handed-more passed old now₁ end new room same kept wrote h =
       record {
         from = omega (arith, h .from);
         fits = omega (arith, h .long);
         long = same ∙ h .long;
         bytes =
-            wrote (graphAt g (decisions uppers lowers depth)) (stands-given f x)
-            ∙ rw (h .bytes, sym (at-entry (x .at))) (sym (placings-more (listed g) passed last (h .from) (at-below (x .at))));
-        rest = kept ∙ sym (drop-drop n end now₁) ∙ ap (drop n) (h .rest) ∙ drop-drop n end old;
+            wrote (reached g trail (at .depth)) (stands-form f x)
+            ∙ rw (h .bytes, sym (at-entry (x .reading))) (sym (placings-more (listed g) passed last (h .from) (at-below (x .reading))));
+        rest = kept ∙ sym (drop-drop (t .n) end now₁) ∙ ap (drop (t .n)) (h .rest) ∙ drop-drop (t .n) end old;
       }
 
   pub stands-within : last < limit → last + 1 ≤ min (length (listed g)) limit
-  stands-within h = omega (arith, at-below (x .at))
+  stands-within h = omega (arith, at-below (x .reading))
 
 pub handed-all : (g : Graph) (passed : ℕ) (old : List ℕ) (last end : ℕ) (new : List ℕ) → passed < last → last ≤ min (length (listed g)) limit
     → (last ≡ min (length (listed g)) limit) ⊎ (length old < end + g .nodes) → Handed g passed old last end new → Filled g passed old last new
@@ -146,14 +148,13 @@ handed-all g passed old last end new some within full h =
 pub past-limit : (g : Graph) (passed : ℕ) (old : List ℕ) → limit ≤ passed → StretchOf g passed old passed old
 past-limit g passed old h = inl (omega (arith, h), refl, refl)
 
-module _ (g : Graph) (uppers lowers low high : List ℕ) (passed : ℕ) (r : Reached) (x : Reaches g uppers lowers low high (passed + 1) r) where
+module _ (g : Graph) (trail states : List ℕ) (passed : ℕ) {r : Reached} (x : Reaches g trail states (passed + 1) r) where
   pub none-left : {all : ℕ} → r ≡ Only all → (old : List ℕ) → StretchOf g passed old passed old
-  none-left {all} e old =
-      let y : Reaches g uppers lowers low high (passed + 1) (Only all) = rw e at x in
+  none-left e old =
+      let y = reached-only g trail states (passed + 1) x e in
       inl (omega (arith, y .0, y .1), refl, refl)
 
-  pub next-stands : {depth : ℕ} → r ≡ At depth → Stands g uppers lowers low high depth passed
-  next-stands {depth} e =
-      let y : Reaches g uppers lowers low high (passed + 1) (At depth) = rw e at x in
+  pub next-stands : {at : Level} → r ≡ At at → Stands g trail states at passed
+  next-stands {at} e =
       let same : passed + 1 - 1 ≡ passed = omega arith in
-      subst (λ (k : ℕ). Stands g uppers lowers low high depth k) same y
+      subst (λ (k : ℕ). Stands g trail states at k) same (reached-at g trail states (passed + 1) x e)

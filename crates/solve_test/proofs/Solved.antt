@@ -13,9 +13,11 @@ use Rattle.base_nodeset.specs.declared.NodeSet.{NodeSet}
 use Rattle.graph.specs.Graph.{Graph, Descent, root, leafOf}
 use Rattle.graph.specs.Placing.{Solvable}
 use Rattle.theory_forest.specs.Shape.{Shaped}
+use Rattle.theory_forest.proofs.Closure.{path-trans}
 use Rattle.theory_solvable.proofs.Free.{OfRoots, Related, Joined, start as joined-start, step as joined-step, joined-member, Free, less, Eliminates, done, take}
 use Rattle.theory_solvable.proofs.Topmost.{stuck-unsolvable}
 use Rattle.theory_solvable.proofs.Eliminated.{eliminates-iff}
+use Rattle.base_tables.specs.Rows.{Closed}
 use Rattle.solve_test.specs.Tables.{Near}
 use Rattle.solve_test.specs.Free.{Spread, start, step, others, FreeIn, Taking, none-taken, then-taken, Ended}
 
@@ -96,13 +98,19 @@ module _
       let same : mem t ≡ less (mem u) F = fun-ext (λ k. r k ∙ others-less (mem u) F k) in
       taking-eliminates p (take F (is-free (mem u) (taking-roots p) F x) (subst (λ (z : ℕ → Bool). Eliminates g z) same e))
 
-  pub answer-is : (b : Bool) → Ended below near leaves roots b → (b ≡ true) ↔ Solvable g
-  answer-is true (t, p, none) =
-      let few : g .nodes ≤ 128 = s .few-nodes in (
-        λ e. eliminates-iff g s .0 (taking-eliminates p (done (λ v h. none v (omega arith)))),
-        λ x. refl,
+  below-closed : Closed below
+  below-closed u v w p q = is-below u w .1 (path-trans (is-below u v .0 p) (is-below v w .0 q))
+
+  pub answer-is : (b : Bool) → (Closed below → Ended below near leaves roots b) → (b ≡ true) ↔ Solvable g
+  answer-is b ended = answer b (ended below-closed)
+    where
+      answer : (b : Bool) → Ended below near leaves roots b → (b ≡ true) ↔ Solvable g
+      answer true (t, p, none) =
+          let few : g .nodes ≤ 128 = s .few-nodes in (
+            λ e. eliminates-iff g s .0 (taking-eliminates p (done (λ v h. none v (omega arith)))),
+            λ x. refl,
+          )
+      answer false (t, p, some, stuck) = (
+        λ e. absurd (false≢true e),
+        λ x. absurd (stuck-unsolvable g s (mem t) (taking-roots p) (some .0) (some .1) (λ F f. stuck F (free-is (mem t) (taking-roots p) F f)) x),
       )
-  answer-is false (t, p, some, stuck) = (
-    λ e. absurd (false≢true e),
-    λ x. absurd (stuck-unsolvable g s (mem t) (taking-roots p) (some .0) (some .1) (λ F f. stuck F (free-is (mem t) (taking-roots p) F f)) x),
-  )

@@ -7,19 +7,14 @@ use Rattle.graph.specs.Graph.{Graph}
 use Rattle.theory_list.specs.Readings.{listed}
 use Rattle.solve_walk.specs.declared.steps.Moved.{Moved}
 use Rattle.solve_walk.specs.declared.steps.Moved.the-variants.{To, End}
-use Rattle.solve_branch.specs.Levels.{Saved}
 use Rattle.solve_branch.specs.States.{Enters, Stands}
 
 -- out of the half that the walk was in
-abbrev pub Left : Graph → List ℕ → List ℕ → List ℕ → List ℕ → ℕ → Moved → Type 0
-Left g uppers lowers low high k (To depth) = Enters g uppers lowers low high depth k
-Left g uppers lowers low high k End = length (listed g) ≡ k
+abbrev pub Left : Graph → List ℕ → List ℕ → ℕ → Moved → Type 0
+Left g trail states k (To at) = Enters g trail states at k
+Left g trail states k End = length (listed g) ≡ k
 
 -- to a reading, or past the last
-abbrev pub Moves : Graph → List ℕ → List ℕ → List ℕ → List ℕ → ℕ → Moved → Type 0
-Moves g uppers lowers low high k (To depth) = Stands g uppers lowers low high depth k
-Moves g uppers lowers low high k End = length (listed g) ≡ k
-
--- the levels before it are saved
-abbrev pub SavedAt : Graph → List ℕ → List ℕ → List ℕ → List ℕ → Moved → Type 0
-SavedAt g uppers lowers saved-low saved-high r = (depth : ℕ) → r ≡ To depth → Saved g uppers lowers saved-low saved-high depth
+abbrev pub Moves : Graph → List ℕ → List ℕ → ℕ → Moved → Type 0
+Moves g trail states k (To at) = Stands g trail states at k
+Moves g trail states k End = length (listed g) ≡ k

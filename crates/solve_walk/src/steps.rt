@@ -1,273 +1,125 @@
-// From reading to reading. The decisions are `depth` entries of two tables: the leaf that the edge added starts from, and
-// the leaf whose root it goes to. It is the first half of its choice where the one that it starts from is the lower.
-use base_nodeset::NodeSet;
+// From reading to reading. A decision is two entries of the trail: the leaf that the edge added starts from, and the leaf whose root
+// it goes to. It is the first half of its choice where the one that it starts from is the lower.
+use base_tables::trees::Trees;
 use solve_branch::dive::Dived;
 use solve_branch::dive::back;
+use solve_branch::dive::fork;
 use solve_branch::dive::hop;
-use solve_branch::levels::save;
+use solve_branch::dive::try_down;
+use solve_branch::dive::write;
+use solve_branch::levels::Level;
+use solve_branch::levels::start;
 use solve_branch::tested::other_half;
 use solve_branch::tested::take_half;
 use solve_reduce::choose::Fork;
-use solve_reduce::choose::choose;
-use solve_reduce::reduced::reduce;
-ghost use Prim.Native.Nat.{ℕ, _+_};
+ghost use Prim.Native.Nat.{ℕ, _+_, _<_};
 ghost use Rattle.graph.specs.Graph.{Graph};
-ghost use Rattle.base_tables.specs.Trees.{Parents};
-ghost use Rattle.solve_reduce.specs.Reduced.{Wide};
-ghost use Rattle.theory_walk.specs.Walk.{Leaving};
-ghost use Rattle.solve_branch.specs.Decisions.{decisions, Within, Room};
-ghost use Rattle.solve_branch.specs.Fits.{Owners, Fits, Walkable};
-ghost use Rattle.solve_branch.specs.Levels.{Levels, Saved};
-ghost use Rattle.solve_branch.specs.States.{Enters, Stands};
-ghost use Rattle.solve_walk.specs.States.{Arriving, Standing, Departing};
-ghost use Rattle.solve_walk.specs.Moves.{Left, Moves, SavedAt};
+ghost use Rattle.base_tables.specs.Trees.{Owners, Fits};
+ghost use Rattle.solve_branch.specs.Decisions.{Noted, Room};
+ghost use Rattle.solve_branch.specs.Levels.{Stack};
+ghost use Rattle.solve_branch.specs.States.{Enters, Stands, Leaves};
+ghost use Rattle.solve_walk.specs.States.{Walkable, Arriving, Standing, Departing};
+ghost use Rattle.solve_walk.specs.Moves.{Left, Moves};
 
 pub enum Moved {
-    To(usize),
+    To(Level),
     End,
 }
 
-// Down to the next reading: the depth there.
-fn enter(
-    parent: &[u8],
-    owner: &[u8],
-    n: usize,
-    roots: NodeSet,
-    low: &mut [u64],
-    high: &mut [u64],
-    saved_low: &mut [u64],
-    saved_high: &mut [u64],
-    uppers: &mut [u8],
-    lowers: &mut [u8],
-    depth: usize,
-) -> usize
-    requires { ⌜ Arriving n (now parent) (now owner) roots (now uppers) (now lowers) (now low) (now high) depth ⌝ }
-    requires { ⌜ Room n (now uppers) (now lowers) × Levels (now «saved_low») (now «saved_high») ⌝ }
+// Down to the next reading: a half is tested, and from there on the untested way is tried. Where it leads nowhere the next half is
+// tested.
+fn enter(owner: &[u8], trees: Trees, states: &mut [u64], trail: &mut [u8], at: Level) -> Level
+    requires { ⌜ Arriving trees (now owner) (now trail) (now states) at × Room (trees .n) (now trail) ⌝ }
     ensures { λ r. ⌜
-        ((g : Graph) (k : ℕ) → Fits g n (now (parent .entry)) (now (owner .entry)) roots →
-        Enters g (now (uppers .entry)) (now (lowers .entry)) (now (low .entry)) (now (high .entry)) depth k →
-        Stands g (now (uppers .exit)) (now (lowers .exit)) (now (low .exit)) (now (high .exit)) r k
-        × (Saved g (now (uppers .entry)) (now (lowers .entry)) (now («saved_low» .entry)) (now («saved_high» .entry)) depth →
-        Saved g (now (uppers .exit)) (now (lowers .exit)) (now («saved_low» .exit)) (now («saved_high» .exit)) r))
+        ((g : Graph) (k : ℕ) → Fits g trees (now (owner .entry)) → Enters g (now (trail .entry)) (now (states .entry)) at k →
+        Stands g (now (trail .exit)) (now (states .exit)) r k)
         ⌝ }
 {
-    let mut at = depth;
+    let mut here = at;
     loop {
-        let Fork::At(v, a, b) = choose(low, high, n) else {
-            return at;
+        let Fork::At(v, a, b) = fork(states, trees.n, here.depth) else {
+            return here;
         };
-        save(low, high, n, saved_low, saved_high, at);
-        take_half(parent, owner, n, roots, low, high, uppers, lowers, at, a, b);
-        at += 1;
+        write(trail, here.depth, a, b);
+        let taken = take_half(owner, trees, states, trail, here);
+        match try_down(owner, trees, states, trail, taken, a) {
+            Dived::To(reading) => return reading,
+            Dived::Stuck(level) => here = level,
+        }
     }
 }
 
-// Up to the last first half whose other half has a solved form, and into that.
-fn leave(
-    parent: &[u8],
-    owner: &[u8],
-    n: usize,
-    roots: NodeSet,
-    low: &mut [u64],
-    high: &mut [u64],
-    saved_low: &[u64],
-    saved_high: &[u64],
-    uppers: &mut [u8],
-    lowers: &mut [u8],
-    depth: usize,
-) -> Moved
-    requires { ⌜
-        Parents n (now parent) × Owners n (now owner) roots × Wide (now low) (now high) × Levels (now «saved_low») (now «saved_high»)
-        ⌝ }
-    requires { ⌜ Within n depth (now uppers) (now lowers) ⌝ }
+// Up to the last first half whose other half has a solved form, and into that. The decision at the level is the first to be left.
+fn leave(owner: &[u8], trees: Trees, states: &mut [u64], trail: &mut [u8], at: Level) -> Moved
+    requires { ⌜ Owners trees (now owner) × Stack (now states) × ((i : ℕ) → i < at .depth + 1 → Noted (trees .n) (now trail) i) ⌝ }
     ensures { λ r. ⌜
-        ((g : Graph) (k : ℕ) → Fits g n (now (parent .entry)) (now (owner .entry)) roots →
-        Leaving g (decisions (now (uppers .entry)) (now (lowers .entry)) depth) k →
-        Saved g (now (uppers .entry)) (now (lowers .entry)) (now («saved_low» .entry)) (now («saved_high» .entry)) depth →
-        Left g (now (uppers .exit)) (now (lowers .exit)) (now (low .exit)) (now (high .exit)) k r
-        × SavedAt g (now (uppers .exit)) (now (lowers .exit)) (now («saved_low» .entry)) (now («saved_high» .entry)) r)
+        ((g : Graph) (k : ℕ) → Fits g trees (now (owner .entry)) → Leaves g (now (trail .entry)) (now (states .entry)) at k →
+        Left g (now (trail .exit)) (now (states .exit)) k r)
         ⌝ }
 {
-    let mut at = depth;
-    while 0 < at {
-        at -= 1;
-        let a = uppers[at];
-        let b = lowers[at];
-        if a < b {
-            if other_half(
-                parent,
-                owner,
-                n,
-                roots,
-                saved_low,
-                saved_high,
-                uppers,
-                lowers,
-                at,
-                low,
-                high,
-            ) {
-                uppers[at] = b;
-                lowers[at] = a;
-                return Moved::To(at + 1);
+    let mut here = at;
+    loop {
+        match other_half(owner, trees, states, trail, here) {
+            Dived::To(other) => return Moved::To(other),
+            Dived::Stuck(left) => {
+                if left.depth == 0 {
+                    return Moved::End;
+                }
+                here = Level {
+                    depth: left.depth - 1,
+                    kept: left.kept,
+                };
             }
         }
     }
-    Moved::End
 }
 
-// The depth at the first reading.
+// The first reading.
 pub fn first(
-    parent: &[u8],
+    rows: &[u64],
     owner: &[u8],
-    n: usize,
-    leaves: NodeSet,
-    roots: NodeSet,
-    base_low: &[u64],
-    base_high: &[u64],
-    low: &mut [u64],
-    high: &mut [u64],
-    saved_low: &mut [u64],
-    saved_high: &mut [u64],
-    uppers: &mut [u8],
-    lowers: &mut [u8],
-) -> usize
-    requires { ⌜ Walkable n (now parent) (now owner) leaves roots (now «base_low») (now «base_high») ⌝ }
-    requires { ⌜ Wide (now low) (now high) × Room n (now uppers) (now lowers) × Levels (now «saved_low») (now «saved_high») ⌝ }
+    trees: Trees,
+    states: &mut [u64],
+    trail: &mut [u8],
+) -> Level
+    requires { ⌜ Walkable trees (now owner) (now rows) × Stack (now states) × Room (trees .n) (now trail) ⌝ }
     ensures { λ r. ⌜
-        ((s : Walkable n (now (parent .entry)) (now (owner .entry)) leaves roots (now («base_low» .entry)) (now («base_high» .entry))) →
-        Stands (s .graph) (now (uppers .exit)) (now (lowers .exit)) (now (low .exit)) (now (high .exit)) r 0
-        × Saved (s .graph) (now (uppers .exit)) (now (lowers .exit)) (now («saved_low» .exit)) (now («saved_high» .exit)) r)
+        ((s : Walkable trees (now (owner .entry)) (now (rows .entry))) → Stands (s .walked .graph) (now (trail .exit)) (now (states .exit)) r 0)
         ⌝ }
 {
-    reduce(base_low, base_high, n, leaves, roots, low, high);
-    enter(
-        parent,
-        owner,
-        n,
-        roots,
-        low,
-        high,
-        saved_low,
-        saved_high,
-        uppers,
-        lowers,
-        0,
-    )
+    let outset = start(rows, trees, states);
+    enter(owner, trees, states, trail, outset)
 }
 
-// The depth at the next reading, on the way on which each half is tested.
-fn advance(
-    parent: &[u8],
-    owner: &[u8],
-    n: usize,
-    roots: NodeSet,
-    low: &mut [u64],
-    high: &mut [u64],
-    saved_low: &mut [u64],
-    saved_high: &mut [u64],
-    uppers: &mut [u8],
-    lowers: &mut [u8],
-    depth: usize,
-) -> Moved
-    requires { ⌜
-        Departing n (now parent) (now owner) roots (now uppers) (now lowers) (now «saved_low») (now «saved_high») depth
-        ⌝ }
-    requires { ⌜ Wide (now low) (now high) × Room n (now uppers) (now lowers) ⌝ }
+// The next reading, on the way on which each half is tested.
+fn advance(owner: &[u8], trees: Trees, states: &mut [u64], trail: &mut [u8], at: Level) -> Moved
+    requires { ⌜ Departing trees (now owner) (now trail) (now states) at × Room (trees .n) (now trail) ⌝ }
     ensures { λ r. ⌜
-        ((g : Graph) (k : ℕ) → Fits g n (now (parent .entry)) (now (owner .entry)) roots →
-        Leaving g (decisions (now (uppers .entry)) (now (lowers .entry)) depth) k →
-        Saved g (now (uppers .entry)) (now (lowers .entry)) (now («saved_low» .entry)) (now («saved_high» .entry)) depth →
-        Moves g (now (uppers .exit)) (now (lowers .exit)) (now (low .exit)) (now (high .exit)) k r
-        × SavedAt g (now (uppers .exit)) (now (lowers .exit)) (now («saved_low» .exit)) (now («saved_high» .exit)) r)
+        ((g : Graph) (k : ℕ) → Fits g trees (now (owner .entry)) → Leaves g (now (trail .entry)) (now (states .entry)) at k →
+        Moves g (now (trail .exit)) (now (states .exit)) k r)
         ⌝ }
 {
-    let Moved::To(turned) = leave(
-        parent,
-        owner,
-        n,
-        roots,
-        low,
-        high,
-        saved_low,
-        saved_high,
-        uppers,
-        lowers,
-        depth,
-    ) else {
+    let Moved::To(turned) = leave(owner, trees, states, trail, at) else {
         return Moved::End;
     };
-    Moved::To(enter(
-        parent,
-        owner,
-        n,
-        roots,
-        low,
-        high,
-        saved_low,
-        saved_high,
-        uppers,
-        lowers,
-        turned,
-    ))
+    Moved::To(enter(owner, trees, states, trail, turned))
 }
 
-// The depth at the reading after this one. Few sheets have halves that lead to none, so that the test of each half mostly says
-// yes: it is left to where the untested way ends.
-pub fn next(
-    parent: &[u8],
-    owner: &[u8],
-    n: usize,
-    roots: NodeSet,
-    low: &mut [u64],
-    high: &mut [u64],
-    saved_low: &mut [u64],
-    saved_high: &mut [u64],
-    uppers: &mut [u8],
-    lowers: &mut [u8],
-    depth: usize,
-) -> Moved
-    requires { ⌜
-        ((k : ℕ) × Standing n (now parent) (now owner) roots (now uppers) (now lowers) (now low) (now high) (now «saved_low») (now «saved_high») depth k)
-        ⌝ }
-    requires { ⌜ Room n (now uppers) (now lowers) ⌝ }
+// The reading after this one. Few sheets have halves that lead to none, so that the test of each half mostly says yes: it is
+// left to where the untested way ends.
+pub fn next(owner: &[u8], trees: Trees, states: &mut [u64], trail: &mut [u8], at: Level) -> Moved
+    requires { ⌜ ((k : ℕ) × Standing trees (now owner) (now trail) (now states) at k) × Room (trees .n) (now trail) ⌝ }
     ensures { λ r. ⌜
-        ((g : Graph) (k : ℕ) → Fits g n (now (parent .entry)) (now (owner .entry)) roots →
-        Stands g (now (uppers .entry)) (now (lowers .entry)) (now (low .entry)) (now (high .entry)) depth k →
-        Saved g (now (uppers .entry)) (now (lowers .entry)) (now («saved_low» .entry)) (now («saved_high» .entry)) depth →
-        Moves g (now (uppers .exit)) (now (lowers .exit)) (now (low .exit)) (now (high .exit)) (k + 1) r
-        × SavedAt g (now (uppers .exit)) (now (lowers .exit)) (now («saved_low» .exit)) (now («saved_high» .exit)) r)
+        ((g : Graph) (k : ℕ) → Fits g trees (now (owner .entry)) → Stands g (now (trail .entry)) (now (states .entry)) at k →
+        Moves g (now (trail .exit)) (now (states .exit)) (k + 1) r)
         ⌝ }
 {
-    let at = back(uppers, lowers, depth);
-    if at == 0 {
+    let left = back(trail, at.depth);
+    if left == 0 {
         return Moved::End;
     }
-    match hop(
-        owner,
-        n,
-        roots,
-        low,
-        high,
-        saved_low,
-        saved_high,
-        uppers,
-        lowers,
-        at - 1,
-    ) {
-        Dived::To(deep) => Moved::To(deep),
-        Dived::Stuck => advance(
-            parent,
-            owner,
-            n,
-            roots,
-            low,
-            high,
-            saved_low,
-            saved_high,
-            uppers,
-            lowers,
-            at,
-        ),
+    match hop(owner, trees, states, trail, at, left - 1) {
+        Dived::To(reading) => Moved::To(reading),
+        Dived::Stuck(stays) => advance(owner, trees, states, trail, stays),
     }
 }

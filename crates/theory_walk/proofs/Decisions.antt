@@ -6,7 +6,7 @@ use mathlib.Core.Path.{_≡_, refl, subst, _∙_}
 use mathlib.Core.List.{List, [], _∷_, _++_}
 use native.Mathlib.Omega.{arith}
 use lib.ListN.{length}
-use Rattle.graph.specs.Graph.{Graph, own, root}
+use Rattle.graph.specs.Graph.{Graph, own, root, leaf}
 use Rattle.graph.specs.Order.{Choice}
 use Rattle.graph.specs.Placing.{Solvable}
 use Rattle.theory_forest.specs.Shape.{Shaped}
@@ -40,6 +40,10 @@ graph-own g ds v = rw (graph-nodes g ds, graph-tree g ds)
 pub graph-root : (g : Graph) (ds : List Decision) (v : ℕ) → root (graphAt g ds) v ≡ root g v
 unfolding root
 graph-root g ds v = rw (graph-nodes g ds, graph-tree g ds)
+
+pub graph-leaf : (g : Graph) (ds : List Decision) (v : ℕ) → leaf (graphAt g ds) v ≡ leaf g v
+unfolding leaf
+graph-leaf g ds v = rw (graph-nodes g ds, graph-tree g ds)
 
 -- pushing and popping
 

@@ -1,5 +1,4 @@
 -- What a walk starts from, where there is anything to walk through.
-use mathlib.Core.Path.{refl}
 use Rattle.solve_start.proofs.Starts.{parents-table}
 use borrow.Author.Needs.{needs}
 use Rattle.readings.proofs.print_list.Statement.{statement}
@@ -11,12 +10,8 @@ slice-aggregate-begin c = search needs
 slice-aggregate-begin-2 : tie.Need-slice-aggregate-begin-2
 slice-aggregate-begin-2 c = search needs
 
-slice-aggregate-begin-3 : tie.Need-slice-aggregate-begin-3
-slice-aggregate-begin-3 c = search needs
-
 begin-requires : tie.Need-begin-requires
-begin-requires c κs =
-    let s = c .before .before .before .before .before .before .pre in (s, parents-table s .few, (refl, refl))
+begin-requires c κs = (c .before .before .before .before .before .pre, parents-table (c .before .before .before .before .before .pre) .few, search needs)
 
 slice-aggregate-print-readings : tie.Need-slice-aggregate-print-readings
 slice-aggregate-print-readings c = search needs
@@ -24,14 +19,8 @@ slice-aggregate-print-readings c = search needs
 slice-aggregate-print-readings-2 : tie.Need-slice-aggregate-print-readings-2
 slice-aggregate-print-readings-2 c = search needs
 
-slice-aggregate-print-readings-3 : tie.Need-slice-aggregate-print-readings-3
-slice-aggregate-print-readings-3 c = search needs
-
 print-readings-requires : tie.Need-print-readings-requires
-print-readings-requires c κs =
-    let t = c .before .before .before in
-    let b = t .before .before .before .before in
-    b .begin .ensures (b .before .before .before .before .before .before .before .pre) .solved (t .if1 .taken) .sheet
+print-readings-requires c κs = c .before .before .before .before .before .begin .ensures .1 (c .before .before .before .before .before .before .before .before .before .before .before .pre) .solved (c .before .before .if1 .taken) .sheet
 
 print-refusal-requires : tie.Need-print-refusal-requires
 print-refusal-requires c κs = search needs
@@ -48,11 +37,9 @@ print-list-spec =
     (tie.spec
     slice-aggregate-begin
     slice-aggregate-begin-2
-    slice-aggregate-begin-3
     begin-requires
     slice-aggregate-print-readings
     slice-aggregate-print-readings-2
-    slice-aggregate-print-readings-3
     print-readings-requires
     print-refusal-requires
     returns

@@ -4,10 +4,10 @@ use mathlib.Core.Path.{_≡_}
 use native.Mathlib.Omega.{arith}
 use lib.ListN.{length}
 use borrow.Author.Tests.{le-leb, not-true}
-use borrow.Author.Needs.{needs}
 use Rattle.graph.specs.Order.{limit, countAnswer}
 use Rattle.graph.specs.declared.Count.the-variants.{Exactly}
 use Rattle.theory_list.specs.Readings.{listed}
+use borrow.Author.Needs.{needs}
 use Rattle.readings.proofs.total.Statement.{statement}
 use Rattle.readings.proofs.total.Tie as tie
 
@@ -19,8 +19,7 @@ exactly all last e h =
 
 returns : tie.Need-returns
 returns c =
-    let s = c .before .before .before .before .before .before in
-    λ x. exactly (length (listed (x .graph))) (s .args .last) (s .pre .1 x (not-true (s .args .more) (c .if2 .taken))) (c .before .if1 .taken)
+    λ x. exactly (length (listed (x .walked .graph))) (c .before .before .before .before .args .last) (c .before .before .before .before .pre .1 x (not-true (c .before .before .before .before .args .more) (c .if2 .taken))) (c .before .if1 .taken)
 
 count-requires : tie.Need-count-requires
 count-requires c κs = search needs
@@ -29,4 +28,9 @@ returns-2 : tie.Need-returns-2
 returns-2 c = search needs
 
 pub total-spec : {M : Type 1} → statement M
-total-spec = tie.close (tie.spec returns count-requires returns-2)
+total-spec =
+    tie.close
+    (tie.spec
+    returns
+    count-requires
+    returns-2)

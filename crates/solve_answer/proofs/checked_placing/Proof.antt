@@ -18,4 +18,9 @@ returns-2 c =
     λ s. placing-answered s _ _ (omega (arith, c .before .if1 .left)) (c .check .ensures)
 
 pub checked-placing-spec : {M : Type 1} → statement M
-checked-placing-spec = tie.close (tie.spec returns check-requires returns-2)
+checked-placing-spec =
+    tie.close
+    (tie.spec
+    returns
+    check-requires
+    returns-2)

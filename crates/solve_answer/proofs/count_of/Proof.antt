@@ -13,16 +13,13 @@ slice-aggregate-begin c = search needs
 slice-aggregate-begin-2 : tie.Need-slice-aggregate-begin-2
 slice-aggregate-begin-2 c = search needs
 
-slice-aggregate-begin-3 : tie.Need-slice-aggregate-begin-3
-slice-aggregate-begin-3 c = search needs
-
 begin-requires : tie.Need-begin-requires
 begin-requires c κs =
-    let s = c .before .before .before .before .before .before .pre in (s, parents-table s .few, (refl, refl))
+    let s = c .before .before .before .before .before .pre in (s, parents-table s .few, refl)
 
 returns : tie.Need-returns
 returns c =
-    λ s. no-count s (c .before .before .before .before .before .begin .ensures s .unsolved (not-true _ (c .if1 .taken)))
+    λ s. no-count s (c .before .before .before .before .begin .ensures .1 s .unsolved (not-true _ (c .if1 .taken)))
 
 slice-aggregate-count : tie.Need-slice-aggregate-count
 slice-aggregate-count c = search needs
@@ -30,16 +27,13 @@ slice-aggregate-count c = search needs
 slice-aggregate-count-2 : tie.Need-slice-aggregate-count-2
 slice-aggregate-count-2 c = search needs
 
-slice-aggregate-count-3 : tie.Need-slice-aggregate-count-3
-slice-aggregate-count-3 c = search needs
-
 count-requires : tie.Need-count-requires
 count-requires c κs =
-    c .before .before .before .before .before .before .before .before .begin .ensures (c .before .before .before .before .before .before .before .before .before .before .before .before .before .before .before .pre) .solved (not-false _ (c .before .before .before .if1 .left)) .sheet
+    c .before .before .before .before .before .before .begin .ensures .1 (c .before .before .before .before .before .before .before .before .before .before .before .before .pre) .solved (not-false _ (c .before .before .if1 .left)) .sheet
 
 returns-2 : tie.Need-returns-2
 returns-2 c =
-    λ s. a-count s (c .before .before .before .before .before .before .before .before .before .begin .ensures s .solved (not-false _ (c .before .before .before .before .if1 .left))) _ (c .count .ensures)
+    λ s. a-count s (c .before .before .before .before .before .before .before .begin .ensures .1 s .solved (not-false _ (c .before .before .before .if1 .left))) _ (c .count .ensures)
 
 pub count-of-spec : {M : Type 1} → statement M
 count-of-spec =
@@ -47,11 +41,9 @@ count-of-spec =
     (tie.spec
     slice-aggregate-begin
     slice-aggregate-begin-2
-    slice-aggregate-begin-3
     begin-requires
     returns
     slice-aggregate-count
     slice-aggregate-count-2
-    slice-aggregate-count-3
     count-requires
     returns-2)

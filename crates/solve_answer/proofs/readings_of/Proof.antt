@@ -23,24 +23,21 @@ slice-aggregate-begin c = search needs
 slice-aggregate-begin-2 : tie.Need-slice-aggregate-begin-2
 slice-aggregate-begin-2 c = search needs
 
-slice-aggregate-begin-3 : tie.Need-slice-aggregate-begin-3
-slice-aggregate-begin-3 c = search needs
-
 begin-requires : tie.Need-begin-requires
 begin-requires c κs =
-    let s = c .before .before .before .before .before .before .before .before .pre .0 in (s, parents-table s .few, (refl, refl))
+    let s = c .before .before .before .before .before .before .before .pre .0 in (s, parents-table s .few, refl)
 
 witness-requires : tie.Need-witness-requires
 witness-requires c κs =
-    let s = c .before .before .before .before .before .before .before .before .before .before .before .before .before .before .before .pre .0 in
-    (unsolved-tables s (c .before .before .before .before .before .before .begin .ensures s .unsolved (not-true _ (c .before .if2 .taken))), omega (arith, c .before .before .before .before .before .before .before .before .before .before .if1 .left))
+    let s = c .before .before .before .before .before .before .before .before .before .before .before .before .before .pre .0 in
+    (unsolved-tables s (c .before .before .before .before .before .begin .ensures .1 s .unsolved (not-true _ (c .before .if2 .taken))), omega (arith, c .before .before .before .before .before .before .before .before .if1 .left))
 
 same-length : tie.Need-same-length
 same-length c = search needs
 
 returns-2 : tie.Need-returns-2
 returns-2 c =
-    λ s. no-reading s _ _ _ _ _ (omega (arith, c .before .before .before .before .before .before .before .before .before .before .before .before .before .if1 .left)) (c .before .before .before .before .before .before .before .before .before .begin .ensures s .unsolved (not-true _ (c .before .before .before .before .if2 .taken))) (c .before .before .witness .ensures .0) (search needs) (c .before .before .witness .ensures .1 .0) (c .before .before .witness .ensures .1 .1)
+    λ s. no-reading s _ _ _ _ _ (omega (arith, c .before .before .before .before .before .before .before .before .before .before .before .if1 .left)) (c .before .before .before .before .before .before .before .before .begin .ensures .1 s .unsolved (not-true _ (c .before .before .before .before .if2 .taken))) (c .before .before .witness .ensures .0) (search needs) (c .before .before .witness .ensures .1 .0) (c .before .before .witness .ensures .1 .1)
 
 slice-aggregate-stretch : tie.Need-slice-aggregate-stretch
 slice-aggregate-stretch c = search needs
@@ -48,36 +45,33 @@ slice-aggregate-stretch c = search needs
 slice-aggregate-stretch-2 : tie.Need-slice-aggregate-stretch-2
 slice-aggregate-stretch-2 c = search needs
 
-slice-aggregate-stretch-3 : tie.Need-slice-aggregate-stretch-3
-slice-aggregate-stretch-3 c = search needs
-
 slice-relend-prefix-stretch : tie.Need-slice-relend-prefix-stretch
 slice-relend-prefix-stretch c =
-    c .before .before .before .before .before .before .before .before .before .before .before .before .before .before .before .before .before .pre .1 (omega (arith, c .before .before .before .before .before .before .before .before .before .before .before .before .if1 .left)) .1
+    c .before .before .before .before .before .before .before .before .before .before .before .before .before .before .pre .1 (omega (arith, c .before .before .before .before .before .before .before .before .before .if1 .left)) .1
 
-slice-aggregate-stretch-4 : tie.Need-slice-aggregate-stretch-4
-slice-aggregate-stretch-4 c =
-    sym (length-take-le _ _ (c .before .before .before .before .before .before .before .before .before .before .before .before .before .before .before .before .before .before .pre .1 (omega (arith, c .before .before .before .before .before .before .before .before .before .before .before .before .before .if1 .left)) .1))
+slice-aggregate-stretch-3 : tie.Need-slice-aggregate-stretch-3
+slice-aggregate-stretch-3 c =
+    sym (length-take-le _ _ (c .before .before .before .before .before .before .before .before .before .before .before .before .before .before .before .pre .1 (omega (arith, c .before .before .before .before .before .before .before .before .before .before .if1 .left)) .1))
 
 stretch-requires : tie.Need-stretch-requires
 stretch-requires c κs =
-    let s = c .before .before .before .before .before .before .before .before .before .before .before .before .before .before .before .before .before .before .pre .0 in
-    let w = c .before .before .before .before .before .before .before .before .before .before .before .before .before .before .before .before .before .before .pre .1 (omega (arith, c .before .before .before .before .before .before .before .before .before .before .before .before .before .if1 .left)) in
-    (c .before .before .before .before .before .before .before .before .before .begin .ensures s .solved (not-false _ (c .before .before .before .before .if2 .left)) .sheet, omega (arith, w .0, length-take-le (c .before .before .before .before .before .before .before .before .before .before .before .before .before .before .before .before .before .before .args .wanted .room) (now (c .before .before .before .before .before .before .before .before .before .before .before .before .before .before .before .before .before .before .args .out)) (w .1)))
+    let s = c .before .before .before .before .before .before .before .before .before .before .before .before .before .before .before .pre .0 in
+    let w = c .before .before .before .before .before .before .before .before .before .before .before .before .before .before .before .pre .1 (omega (arith, c .before .before .before .before .before .before .before .before .before .before .if1 .left)) in
+    (c .before .before .before .before .before .before .before .begin .ensures .1 s .solved (not-false _ (c .before .before .before .if2 .left)) .sheet, omega (arith, w .0, c .before .before .before .before .before .before .before .begin .ensures .0, length-take-le (c .before .before .before .before .before .before .before .before .before .before .before .before .before .before .before .args .wanted .room) (now (c .before .before .before .before .before .before .before .before .before .before .before .before .before .before .before .args .out)) (w .1)))
 
 same-length-2 : tie.Need-same-length-2
 same-length-2 c = search needs
 
 returns-3 : tie.Need-returns-3
 returns-3 c =
-    λ s. none-after s (c .before .before .before .before .before .before .before .before .before .before .before .before .before .begin .ensures s .solved (not-false _ (c .before .before .before .before .before .before .before .before .if2 .left))) _ (omega (arith, c .before .before .before .before .before .before .before .before .before .before .before .before .before .before .before .before .before .if1 .left)) (c .before .before .before .before .before .before .before .before .before .before .before .before .before .before .before .before .before .before .before .before .before .before .pre .1 (omega (arith, c .before .before .before .before .before .before .before .before .before .before .before .before .before .before .before .before .before .if1 .left)) .1) (c .before .before .before .stretch .ensures) (omega (arith, c .if3 .taken))
+    λ s. none-after s (c .before .before .before .before .before .before .before .before .before .before .before .begin .ensures .1 s .solved (not-false _ (c .before .before .before .before .before .before .before .if2 .left))) _ (omega (arith, c .before .before .before .before .before .before .before .before .before .before .before .before .before .before .if1 .left)) (c .before .before .before .before .before .before .before .before .before .before .before .before .before .before .before .before .before .before .before .pre .1 (omega (arith, c .before .before .before .before .before .before .before .before .before .before .before .before .before .before .if1 .left)) .1) (c .before .before .before .stretch .ensures) (omega (arith, c .if3 .taken))
 
 same-length-3 : tie.Need-same-length-3
 same-length-3 c = search needs
 
 returns-4 : tie.Need-returns-4
 returns-4 c =
-    λ s. read-after s (c .before .before .before .before .before .before .before .before .before .before .before .before .before .begin .ensures s .solved (not-false _ (c .before .before .before .before .before .before .before .before .if2 .left))) _ (omega (arith, c .before .before .before .before .before .before .before .before .before .before .before .before .before .before .before .before .before .if1 .left)) (c .before .before .before .before .before .before .before .before .before .before .before .before .before .before .before .before .before .before .before .before .before .before .pre .1 (omega (arith, c .before .before .before .before .before .before .before .before .before .before .before .before .before .before .before .before .before .if1 .left)) .1) (c .before .before .before .stretch .ensures) (c .if3 .left)
+    λ s. read-after s (c .before .before .before .before .before .before .before .before .before .before .before .begin .ensures .1 s .solved (not-false _ (c .before .before .before .before .before .before .before .if2 .left))) _ (omega (arith, c .before .before .before .before .before .before .before .before .before .before .before .before .before .before .if1 .left)) (c .before .before .before .before .before .before .before .before .before .before .before .before .before .before .before .before .before .before .before .pre .1 (omega (arith, c .before .before .before .before .before .before .before .before .before .before .before .before .before .before .if1 .left)) .1) (c .before .before .before .stretch .ensures) (c .if3 .left)
 
 pub readings-of-spec : {M : Type 1} → statement M
 readings-of-spec =
@@ -87,16 +81,14 @@ readings-of-spec =
     returns
     slice-aggregate-begin
     slice-aggregate-begin-2
-    slice-aggregate-begin-3
     begin-requires
     witness-requires
     same-length
     returns-2
     slice-aggregate-stretch
     slice-aggregate-stretch-2
-    slice-aggregate-stretch-3
     slice-relend-prefix-stretch
-    slice-aggregate-stretch-4
+    slice-aggregate-stretch-3
     stretch-requires
     same-length-2
     returns-3

@@ -16,22 +16,17 @@ rising-requires c κs = search needs
 
 join-requires : tie.Need-join-requires
 join-requires c κs x t =
-    let a = c .before .before .before .before .before .before .before .before .before .before .before .args in
-    let below = rising-below (a .n) (a .a) (now (a .low)) (now (a .high)) _ (c .before .before .rising .ensures) x t in
+    let a = c .before .before .before .before .before .before .before .args in
+    let below = rising-below (a .n) (a .a) (now (a .rows)) _ (c .before .rising .ensures) x t in
     search needs
 
 same-length : tie.Need-same-length
 same-length c = search needs
 
-same-length-2 : tie.Need-same-length-2
-same-length-2 c = search needs
-
 returns : tie.Need-returns
 returns c =
-    let e = c .before .before .before .before .before .before .before in
-    let w = e .before .before .before in
-    let over = e .rising .ensures in
-    (joined-extended _ _ _ _ _ (w .before .set-at .result) over (w .before .set-at .ensures) (w .with .ensures) (c .before .before .before .before .join .ensures), over)
+    let over = c .before .before .before .before .rising .ensures in
+    (joined-extended _ _ _ _ _ (c .before .before .before .before .before .before .before .set-at .result) over (c .before .before .before .before .before .before .before .set-at .ensures) (c .before .before .before .before .before .before .with .ensures) (c .before .before .join .ensures), over)
 
 pub add-edge-spec : {M : Type 1} → statement M
 add-edge-spec =
@@ -42,5 +37,4 @@ add-edge-spec =
     rising-requires
     join-requires
     same-length
-    same-length-2
     returns)

@@ -10,15 +10,15 @@ use Rattle.solve_closure.proofs.add_heads.Statement.{statement}
 use Rattle.solve_closure.proofs.add_heads.Tie as tie
 
 abbrev Inv-loop : tie.InvT-loop
-Inv-loop heads-low heads-high n low₀ high₀ l₀ low high l = (l ≤ n) × Adds n (headIn l heads-low heads-high) low₀ high₀ low high
+Inv-loop heads-low heads-high n rows₀ l₀ rows l = (l ≤ n) × Adds n (headIn l heads-low heads-high) rows₀ rows
 
 abbrev μ-loop : tie.MeasureT-loop
-μ-loop heads-low heads-high n low₀ high₀ l₀ low high l = n - l
+μ-loop heads-low heads-high n rows₀ l₀ rows l = n - l
 
 loop-holds : tie.Need-loop-holds Inv-loop μ-loop
 loop-holds c =
-    let a = c .before .before .before .before .args in
-    (omega arith, adds-none _ _ _ _ (head-none (now (a .heads-low)) (now (a .heads-high))))
+    let a = c .before .before .before .args in
+    (omega arith, adds-none _ _ _ (head-none (now (a .heads-low)) (now (a .heads-high))))
 
 set-at-requires : tie.Need-set-at-requires Inv-loop μ-loop
 set-at-requires c κs = search needs
@@ -34,27 +34,24 @@ loop-less c = search needs
 
 loop-again : tie.Need-loop-again Inv-loop μ-loop
 loop-again c =
-    let l = c .before .before .before .before .before .before .before .before .before .loop in
-    let a = c .before .before .before .before .before .before .before .before .before .before .before .before .before .before .args in (
+    let l = c .before .before .before .before .before .before .loop in
+    let a = c .before .before .before .before .before .before .before .before .before .before .args in (
       omega arith,
       adds-ext
-          (head-more (l .l) (now (a .heads-low)) (now (a .heads-high)) _ (c .before .before .before .before .before .before .before .set-at .ensures))
+          (head-more (l .l) (now (a .heads-low)) (now (a .heads-high)) _ (c .before .before .before .before .set-at .ensures))
           (adds-more
           (head-from (a .n) (l .l) (now (a .heads-low)) (now (a .heads-high)) (omega arith))
           (l .inv .1)
-          (c .before .before .before .before .add-row .ensures)),
+          (c .before .before .add-row .ensures)),
     )
 
 same-length : tie.Need-same-length Inv-loop μ-loop
 same-length c = search needs
 
-same-length-2 : tie.Need-same-length-2 Inv-loop μ-loop
-same-length-2 c = search needs
-
 returns : tie.Need-returns Inv-loop μ-loop
 returns c =
     let l = c .before .loop in
-    let all : l .l ≡ c .before .before .before .before .before .before .args .n = omega arith in
+    let all : l .l ≡ c .before .before .before .before .before .args .n = omega arith in
     rw all at (l .inv .1)
 
 pub add-heads-spec : {M : Type 1} → statement M
@@ -70,5 +67,4 @@ add-heads-spec =
     loop-less
     loop-again
     same-length
-    same-length-2
     returns)

@@ -8,28 +8,30 @@ use Rattle.solve_closure.proofs.add_link.Tie as tie
 
 add-edge-requires : tie.Need-add-edge-requires
 add-edge-requires c κs =
-    let below = c .before .before .before .before .before .pre .3 (c .before .before .if1 .taken) in
+    let below = c .before .before .before .pre .3 (c .before .if1 .taken) in
     search needs
 
 same-length : tie.Need-same-length
 same-length c = search needs
 
-same-length-2 : tie.Need-same-length-2
-same-length-2 c = search needs
-
 returns : tie.Need-returns
 returns c =
-    let s = c .before .before .before .before .before .before .before .before .before .before in
-    let a = s .args in
-    let some = c .before .before .before .before .before .before .before .if1 .taken in
+    let a = c .before .before .before .before .before .before .args in
+    let some = c .before .before .before .before .if1 .taken in
     adds-ext
     (λ u v. link-present (a .above) (a .v) u v some)
-    (extended-adds (a .n) (a .above) (a .v) (s .pre .3 some) (c .before .before .before .before .add-edge .ensures .0))
+    (extended-adds (a .n) (a .above) (a .v) (c .before .before .before .before .before .before .pre .3 some) (c .before .before .add-edge .ensures .0))
 
 returns-2 : tie.Need-returns-2
 returns-2 c =
-    let a = c .before .before .before .args in
-    adds-none (a .n) (linkTo (a .above) (a .v)) (now (a .low)) (now (a .high)) (λ u v. link-absent (a .above) (a .v) u v (c .if1 .left))
+    let a = c .before .before .args in
+    adds-none (a .n) (linkTo (a .above) (a .v)) (now (a .rows)) (λ u v. link-absent (a .above) (a .v) u v (c .if1 .left))
 
 pub add-link-spec : {M : Type 1} → statement M
-add-link-spec = tie.close (tie.spec add-edge-requires same-length same-length-2 returns returns-2)
+add-link-spec =
+    tie.close
+    (tie.spec
+    add-edge-requires
+    same-length
+    returns
+    returns-2)

@@ -3,31 +3,29 @@ use Prim.Native.Nat.{_-_, _≤_}
 use mathlib.Core.Path.{_≡_}
 use native.Mathlib.Omega.{arith}
 use denote.Ref.{now}
-use borrow.Author.Needs.{needs}
 use Rattle.solve_closure.specs.Closing.{linkIn, Adds}
 use Rattle.solve_closure.proofs.Edges.{adds-ext, adds-none, adds-more, link-none, link-more, link-from}
+use borrow.Author.Needs.{needs}
 use Rattle.solve_closure.proofs.add_links.Statement.{statement}
 use Rattle.solve_closure.proofs.add_links.Tie as tie
 
 abbrev Inv-loop : tie.InvT-loop
-Inv-loop links n low₀ high₀ v₀ low high v = (v ≤ n) × Adds n (linkIn v links) low₀ high₀ low high
+Inv-loop links n rows₀ v₀ rows v = (v ≤ n) × Adds n (linkIn v links) rows₀ rows
 
 abbrev μ-loop : tie.MeasureT-loop
-μ-loop links n low₀ high₀ v₀ low high v = n - v
+μ-loop links n rows₀ v₀ rows v = n - v
 
 loop-holds : tie.Need-loop-holds Inv-loop μ-loop
-loop-holds c = (omega arith, adds-none _ _ _ _ (link-none (c .before .before .before .args .links .now)))
+loop-holds c = (omega arith, adds-none _ _ _ (link-none (c .before .before .args .links .now)))
 
 shared-slice-read-add-link : tie.Need-shared-slice-read-add-link Inv-loop μ-loop
 shared-slice-read-add-link c =
-    let s = c .before .before .before .before .before .before .before .before in
-    let long = s .pre .0 .long in
+    let long = c .before .before .before .before .before .before .pre .0 .long in
     omega arith
 
 add-link-requires : tie.Need-add-link-requires Inv-loop μ-loop
 add-link-requires c κs =
-    let s = c .before .before .before .before .before .before .before .before in
-    ((search needs, search needs), search needs, search needs, s .pre .0 .node-or-none (c .before .before .before .before .loop .v) (omega arith))
+    (search needs, search needs, search needs, c .before .before .before .before .before .before .pre .0 .node-or-none (c .before .before .before .loop .v) (omega arith))
 
 add-v : tie.Need-add-v Inv-loop μ-loop
 add-v c = search needs
@@ -37,27 +35,23 @@ loop-less c = search needs
 
 loop-again : tie.Need-loop-again Inv-loop μ-loop
 loop-again c =
-    let l = c .before .before .before .before .before .before .before .before .before .loop in
-    let s = c .before .before .before .before .before .before .before .before .before .before .before .before .before in (
+    let l = c .before .before .before .before .before .before .loop in (
       omega arith,
       adds-ext
-          (link-more (l .v) (now (s .args .links)))
+          (link-more (l .v) (now (c .before .before .before .before .before .before .before .before .before .args .links)))
           (adds-more
-          (link-from (s .args .n) (now (s .args .links)) (s .pre .0) (l .v) (omega arith))
+          (link-from (c .before .before .before .before .before .before .before .before .before .args .n) (now (c .before .before .before .before .before .before .before .before .before .args .links)) (c .before .before .before .before .before .before .before .before .before .pre .0) (l .v) (omega arith))
           (l .inv .1)
-          (c .before .before .before .before .add-link .ensures)),
+          (c .before .before .add-link .ensures)),
     )
 
 same-length : tie.Need-same-length Inv-loop μ-loop
 same-length c = search needs
 
-same-length-2 : tie.Need-same-length-2 Inv-loop μ-loop
-same-length-2 c = search needs
-
 returns : tie.Need-returns Inv-loop μ-loop
 returns c =
     let l = c .before .loop in
-    let all : l .v ≡ c .before .before .before .before .before .args .n = omega arith in
+    let all : l .v ≡ c .before .before .before .before .args .n = omega arith in
     rw all at (l .inv .1)
 
 pub add-links-spec : {M : Type 1} → statement M
@@ -73,5 +67,4 @@ add-links-spec =
     loop-less
     loop-again
     same-length
-    same-length-2
     returns)

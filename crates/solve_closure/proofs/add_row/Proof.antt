@@ -12,14 +12,14 @@ use Rattle.solve_closure.proofs.add_row.Statement.{statement}
 use Rattle.solve_closure.proofs.add_row.Tie as tie
 
 abbrev Inv-loop : tie.InvT-loop
-Inv-loop l n low₀ high₀ left₀ low high left =
-    ((v : ℕ) → mem left v ≡ true → mem left₀ v ≡ true) × Adds n (passed l left₀ left) low₀ high₀ low high
+Inv-loop l n rows₀ left₀ rows left =
+    ((v : ℕ) → mem left v ≡ true → mem left₀ v ≡ true) × Adds n (passed l left₀ left) rows₀ rows
 
 abbrev μ-loop : tie.MeasureT-loop
-μ-loop l n low₀ high₀ left₀ low high left = count 128 (mem left)
+μ-loop l n rows₀ left₀ rows left = count 128 (mem left)
 
 loop-holds : tie.Need-loop-holds Inv-loop μ-loop
-loop-holds c = (λ v t. t, adds-none _ _ _ _ (passed-none _ _))
+loop-holds c = (λ v t. t, adds-none _ _ _ (passed-none _ _))
 
 pop-requires : tie.Need-pop-requires Inv-loop μ-loop
 pop-requires c κs = search needs
@@ -33,45 +33,32 @@ enum-told c = search needs
 same-length : tie.Need-same-length Inv-loop μ-loop
 same-length c = search needs
 
-same-length-2 : tie.Need-same-length-2 Inv-loop μ-loop
-same-length-2 c = search needs
-
 returns : tie.Need-returns Inv-loop μ-loop
 returns c =
-    let p = c .before .before in
-    let l = p .before in
-    let s = l .before .before .before in
-    adds-ext (passed-all (s .args .l) (s .args .row) (l .loop .left) (p .pop .ensures .empty (c .enum-told .given .1))) (l .loop .inv .1)
+    adds-ext (passed-all (c .before .before .before .before .before .args .l) (c .before .before .before .before .before .args .row) (c .before .before .before .loop .left) (c .before .before .pop .ensures .empty (c .enum-told .given .1))) (c .before .before .before .loop .inv .1)
 
 add-edge-requires : tie.Need-add-edge-requires Inv-loop μ-loop
 add-edge-requires c κs =
-    let first = c .before .before .before .before .before .pop .ensures .lowest _ _ (c .before .before .before .r .given .1) in
+    let first = c .before .before .before .before .pop .ensures .lowest _ _ (c .before .before .r .given .1) in
     search needs
 
 loop-less : tie.Need-loop-less Inv-loop μ-loop
 loop-less c =
-    let r = c .before .before .before .before .before .before .before .before in
-    let p = r .before .before in
-    let first = p .pop .ensures .lowest _ _ (r .r .given .1) in
+    let first = c .before .before .before .before .before .before .before .pop .ensures .lowest _ _ (c .before .before .before .before .before .r .given .1) in
     omega arith
 
 loop-again : tie.Need-loop-again Inv-loop μ-loop
 loop-again c =
-    let d = c .before .before .before .before in
-    let r = d .before .before .before .before in
-    let p = r .before .before in
-    let o = p .before in
-    let s = o .before .before .before in
-    let l = o .loop in
-    let a = s .args in
-    let first = p .pop .ensures .lowest _ _ (r .r .given .1) in (
+    let l = c .before .before .before .before .before .before .before .before .loop in
+    let a = c .before .before .before .before .before .before .before .before .before .before .args in
+    let first = c .before .before .before .before .before .before .before .pop .ensures .lowest _ _ (c .before .before .before .before .before .r .given .1) in (
       left-stays _ (l .inv .0) first,
       adds-ext
           (passed-more (a .l) (a .row) (l .inv .0 _ (first .in-set)) first)
           (adds-more
           (passed-from (a .n) (a .l) (a .row) (l .left) (omega arith))
           (l .inv .1)
-          (extended-adds (a .n) (a .l) _ (omega arith) (d .add-edge .ensures .0))),
+          (extended-adds (a .n) (a .l) _ (omega arith) (c .before .before .add-edge .ensures .0))),
     )
 
 pub add-row-spec : {M : Type 1} → statement M
@@ -85,7 +72,6 @@ add-row-spec =
     enum-known-r
     enum-told
     same-length
-    same-length-2
     returns
     add-edge-requires
     loop-less

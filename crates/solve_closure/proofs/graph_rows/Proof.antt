@@ -17,17 +17,13 @@ add-heads-requires c κs = search needs
 same-length : tie.Need-same-length
 same-length c = search needs
 
-same-length-2 : tie.Need-same-length-2
-same-length-2 c = search needs
-
 returns : tie.Need-returns
 returns c g edges t =
-    let wiped = c .before .before .before .before .before .before .before .before .before .before .before .before .before .before .before .before .before .before .clear in
-    let s = c .before .before .before .before .before .before .before .before .before .before .before .before .before .before .before .before .before .before .before .before .before .before .before .before .before .before in
+    let wiped = c .before .before .before .before .before .before .before .before .before .before .clear in
     graph-built g t
-    (cleared-closed (wiped .kept .0 ∙ s .pre .2 .0) (wiped .kept .1 .0 ∙ s .pre .2 .1) (wiped .ensures))
-    (c .before .before .before .before .before .before .before .before .before .before .before .add-links .ensures)
-    (c .before .before .before .before .add-heads .ensures)
+    (cleared-closed (wiped .kept .0 ∙ c .before .before .before .before .before .before .before .before .before .before .before .before .before .before .before .before .pre .2) (wiped .ensures))
+    (c .before .before .before .before .before .before .add-links .ensures)
+    (c .before .before .add-heads .ensures)
 
 pub graph-rows-spec : {M : Type 1} → statement M
 graph-rows-spec =
@@ -37,5 +33,4 @@ graph-rows-spec =
     add-links-requires
     add-heads-requires
     same-length
-    same-length-2
     returns)

@@ -12,13 +12,13 @@ use Rattle.solve_closure.proofs.join.Statement.{statement}
 use Rattle.solve_closure.proofs.join.Tie as tie
 
 abbrev Inv-loop : tie.InvT-loop
-Inv-loop low₀ high₀ more left₀ low high left = ((x : ℕ) → mem left x ≡ true → mem left₀ x ≡ true) × Joined (done left₀ left) (mem more) low₀ high₀ low high
+Inv-loop rows₀ more left₀ rows left = ((x : ℕ) → mem left x ≡ true → mem left₀ x ≡ true) × Joined (done left₀ left) (mem more) rows₀ rows
 
 abbrev μ-loop : tie.MeasureT-loop
-μ-loop low₀ high₀ more left₀ low high left = count 128 (mem left)
+μ-loop rows₀ more left₀ rows left = count 128 (mem left)
 
 loop-holds : tie.Need-loop-holds Inv-loop μ-loop
-loop-holds c = (λ x t. t, joined-none _ _ _ _)
+loop-holds c = (λ x t. t, joined-none _ _ _)
 
 pop-requires : tie.Need-pop-requires Inv-loop μ-loop
 pop-requires c κs = search needs
@@ -32,20 +32,14 @@ enum-told c = search needs
 same-length : tie.Need-same-length Inv-loop μ-loop
 same-length c = search needs
 
-same-length-2 : tie.Need-same-length-2 Inv-loop μ-loop
-same-length-2 c = search needs
-
 returns : tie.Need-returns Inv-loop μ-loop
 returns c =
-    let p = c .before .before in
-    let l = p .before in
-    let s = l .before .before .before in
-    joined-all (s .args .set) (l .loop .left) _ (p .pop .ensures .empty (c .enum-told .given .1)) (l .loop .inv .1)
+    joined-all (c .before .before .before .before .before .args .set) (c .before .before .before .loop .left) _ (c .before .before .pop .ensures .empty (c .enum-told .given .1)) (c .before .before .before .loop .inv .1)
 
 set-at-requires : tie.Need-set-at-requires Inv-loop μ-loop
 set-at-requires c κs =
-    let first = c .before .before .before .before .before .pop .ensures .lowest _ _ (c .before .before .before .x .given .1) in
-    let in-tables = c .before .before .before .before .before .before .before .before .before .pre _ (c .before .before .before .before .before .before .loop .inv .0 _ (first .in-set)) in
+    let first = c .before .before .before .before .pop .ensures .lowest _ _ (c .before .before .x .given .1) in
+    let in-tables = c .before .before .before .before .before .before .before .pre _ (c .before .before .before .before .before .loop .inv .0 _ (first .in-set)) in
     search needs
 
 union-requires : tie.Need-union-requires Inv-loop μ-loop
@@ -53,31 +47,19 @@ union-requires c κs = search needs
 
 put-at-requires : tie.Need-put-at-requires Inv-loop μ-loop
 put-at-requires c κs =
-    let x = c .before .before .before .before .before .before .before in
-    let p = x .before .before in
-    let l = p .before in
-    let s = l .before .before .before in
-    let first = p .pop .ensures .lowest _ _ (x .x .given .1) in
-    let in-tables = s .pre _ (l .loop .inv .0 _ (first .in-set)) in
+    let first = c .before .before .before .before .before .before .before .pop .ensures .lowest _ _ (c .before .before .before .before .before .x .given .1) in
+    let in-tables = c .before .before .before .before .before .before .before .before .before .before .pre _ (c .before .before .before .before .before .before .before .before .loop .inv .0 _ (first .in-set)) in
     search needs
 
 loop-less : tie.Need-loop-less Inv-loop μ-loop
 loop-less c =
-    let x = c .before .before .before .before .before .before .before .before .before .before .before .before in
-    let p = x .before .before in
-    let first = p .pop .ensures .lowest _ _ (x .x .given .1) in
+    let first = c .before .before .before .before .before .before .before .before .before .before .pop .ensures .lowest _ _ (c .before .before .before .before .before .before .before .before .x .given .1) in
     omega arith
 
 loop-again : tie.Need-loop-again Inv-loop μ-loop
 loop-again c =
-    let p = c .before .before .before .before in
-    let u = p .before .before .before in
-    let s = u .before in
-    let x = s .before .before .before .before in
-    let o = x .before .before in
-    let l = o .before in
-    let first = o .pop .ensures .lowest _ _ (x .x .given .1) in
-    (left-stays _ (l .loop .inv .0) first, joined-more _ _ (s .set-at .result) (l .loop .inv .0 _ (first .in-set)) first (s .set-at .ensures) (u .union .ensures) (p .put-at .ensures) (l .loop .inv .1))
+    let first = c .before .before .before .before .before .before .before .before .before .before .pop .ensures .lowest _ _ (c .before .before .before .before .before .before .before .before .x .given .1) in
+    (left-stays _ (c .before .before .before .before .before .before .before .before .before .before .before .loop .inv .0) first, joined-more _ _ (c .before .before .before .before .before .set-at .result) (c .before .before .before .before .before .before .before .before .before .before .before .loop .inv .0 _ (first .in-set)) first (c .before .before .before .before .before .set-at .ensures) (c .before .before .before .before .union .ensures) (c .before .before .put-at .ensures) (c .before .before .before .before .before .before .before .before .before .before .before .loop .inv .1))
 
 pub join-spec : {M : Type 1} → statement M
 join-spec =
@@ -90,7 +72,6 @@ join-spec =
     enum-known-x
     enum-told
     same-length
-    same-length-2
     returns
     set-at-requires
     union-requires

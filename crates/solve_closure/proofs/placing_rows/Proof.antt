@@ -10,7 +10,7 @@ clear-requires : tie.Need-clear-requires
 clear-requires c κs = search needs
 
 add-links-requires : tie.Need-add-links-requires
-add-links-requires c κs = (parents-links (c .before .before .before .before .before .before .before .before .before .before .before .before .before .pre .0), (search needs, search needs), search needs)
+add-links-requires c κs = (parents-links (c .before .before .before .before .before .before .before .before .pre .0), search needs, search needs)
 
 add-links-requires-2 : tie.Need-add-links-requires-2
 add-links-requires-2 c κs = search needs
@@ -18,17 +18,13 @@ add-links-requires-2 c κs = search needs
 same-length : tie.Need-same-length
 same-length c = search needs
 
-same-length-2 : tie.Need-same-length-2
-same-length-2 c = search needs
-
 returns : tie.Need-returns
 returns c g lows highs edges t is-placing =
-    let wiped = c .before .before .before .before .before .before .before .before .before .before .before .before .before .before .before .before .before .before .clear in
-    let s = c .before .before .before .before .before .before .before .before .before .before .before .before .before .before .before .before .before .before .before .before .before .before .before .before .before in
-    placing-built g t (now (s .args .placing)) is-placing
-    (cleared-closed (wiped .kept .0 ∙ s .pre .2 .0) (wiped .kept .1 .0 ∙ s .pre .2 .1) (wiped .ensures))
-    (c .before .before .before .before .before .before .before .before .before .before .before .add-links .ensures)
-    (c .before .before .before .before .add-links2 .ensures)
+    let wiped = c .before .before .before .before .before .before .before .before .before .before .clear in
+    placing-built g t (now (c .before .before .before .before .before .before .before .before .before .before .before .before .before .before .before .args .placing)) is-placing
+    (cleared-closed (wiped .kept .0 ∙ c .before .before .before .before .before .before .before .before .before .before .before .before .before .before .before .pre .2) (wiped .ensures))
+    (c .before .before .before .before .before .before .add-links .ensures)
+    (c .before .before .add-links2 .ensures)
 
 pub placing-rows-spec : {M : Type 1} → statement M
 placing-rows-spec =
@@ -38,5 +34,4 @@ placing-rows-spec =
     add-links-requires
     add-links-requires-2
     same-length
-    same-length-2
     returns)

@@ -1,7 +1,6 @@
 -- The walk goes to the first reading wanted and on from there.
 use mathlib.Core.Logic.{inr}
 use native.Mathlib.Omega.{arith}
-use Rattle.solve_walk.proofs.Walked.{walked-of}
 use Rattle.solve_numbered.proofs.Numbers.{room}
 use Rattle.solve_stretch.proofs.Placings.{past-limit, none-left, next-stands}
 use borrow.Author.Needs.{needs}
@@ -9,8 +8,7 @@ use Rattle.solve_stretch.proofs.stretch.Statement.{statement}
 use Rattle.solve_stretch.proofs.stretch.Tie as tie
 
 returns : tie.Need-returns
-returns c =
-    λ s. past-limit (s .graph) _ _ (omega (arith, c .if1 .taken))
+returns c = λ s. past-limit (s .walked .graph) _ _ (omega (arith, c .if1 .taken))
 
 slice-aggregate-reach : tie.Need-slice-aggregate-reach
 slice-aggregate-reach c = search needs
@@ -18,31 +16,20 @@ slice-aggregate-reach c = search needs
 slice-aggregate-reach-2 : tie.Need-slice-aggregate-reach-2
 slice-aggregate-reach-2 c = search needs
 
-slice-aggregate-reach-3 : tie.Need-slice-aggregate-reach-3
-slice-aggregate-reach-3 c = search needs
-
-slice-aggregate-reach-4 : tie.Need-slice-aggregate-reach-4
-slice-aggregate-reach-4 c = search needs
-
-slice-aggregate-reach-5 : tie.Need-slice-aggregate-reach-5
-slice-aggregate-reach-5 c = search needs
-
-slice-aggregate-reach-6 : tie.Need-slice-aggregate-reach-6
-slice-aggregate-reach-6 c = search needs
-
 add-reach : tie.Need-add-reach
 add-reach c = search needs
 
 reach-requires : tie.Need-reach-requires
-reach-requires c κs =
-    let s = c .before .before .before .before .before .before .before .before .before .before .before .before .pre .0 in
-    (s, ((search needs, search needs), (omega (arith, room s), omega (arith, room s)), omega arith, (search needs, search needs)))
+reach-requires c κs = (c .before .before .before .before .before .before .pre .0, search needs, omega (arith, room (c .before .before .before .before .before .before .pre .0)), omega arith)
+
+enum-known-at : tie.Need-enum-known-at
+enum-known-at c = search needs
 
 enum-told : tie.Need-enum-told
 enum-told c = search needs
 
-enum-known-depth : tie.Need-enum-known-depth
-enum-known-depth c = search needs
+returns-2 : tie.Need-returns-2
+returns-2 c = λ s. none-left (s .walked .graph) _ _ (c .before .before .before .before .before .before .before .before .before .before .before .args .passed) (c .before .before .before .before .reach .ensures s) (c .enum-told .given .1) _
 
 slice-aggregate-fill : tie.Need-slice-aggregate-fill
 slice-aggregate-fill c = search needs
@@ -50,35 +37,16 @@ slice-aggregate-fill c = search needs
 slice-aggregate-fill-2 : tie.Need-slice-aggregate-fill-2
 slice-aggregate-fill-2 c = search needs
 
-slice-aggregate-fill-3 : tie.Need-slice-aggregate-fill-3
-slice-aggregate-fill-3 c = search needs
-
-slice-aggregate-fill-4 : tie.Need-slice-aggregate-fill-4
-slice-aggregate-fill-4 c = search needs
-
-slice-aggregate-fill-5 : tie.Need-slice-aggregate-fill-5
-slice-aggregate-fill-5 c = search needs
-
-slice-aggregate-fill-6 : tie.Need-slice-aggregate-fill-6
-slice-aggregate-fill-6 c = search needs
-
 fill-requires : tie.Need-fill-requires
 fill-requires c κs =
-    let s = c .before .before .before .before .before .before .before .before .before .before .before .before .before .before .before .before .before .before .before .before .before .before .before .before .before .before .before .before .before .pre .0 in (
-      record { walked = walked-of s; stands = next-stands (s .graph) _ _ _ _ _ _ (c .before .before .before .before .before .before .before .before .before .before .before .before .before .before .before .before .reach .ensures s .0) (c .before .before .before .before .before .before .before .before .depth .given .1); saved = c .before .before .before .before .before .before .before .before .before .before .before .before .before .before .before .before .reach .ensures s .1 _ (c .before .before .before .before .before .before .before .before .depth .given .1) },
-      ((omega (arith, room s, c .before .before .before .before .before .before .before .before .before .before .before .before .before .before .before .before .reach .kept), omega (arith, room s, c .before .before .before .before .before .before .before .before .before .before .before .before .before .before .before .before .reach .kept)), omega (arith, c .before .before .before .before .before .before .before .before .before .before .before .before .before .before .before .before .before .before .before .before .before .before .before .if1 .left), c .before .before .before .before .before .before .before .before .before .before .before .before .before .before .before .before .before .before .before .before .before .before .before .before .before .before .before .before .before .pre .1),
-    )
-
-returns-2 : tie.Need-returns-2
-returns-2 c =
-    λ s. none-left (s .graph) _ _ _ _ _ _ (c .before .before .before .before .before .before .before .before .reach .ensures s .0) (c .enum-told .given .1) _
+    let s = c .before .before .before .before .before .before .before .before .before .before .before .before .before .before .before .pre .0 in
+    ((record { walked = s .walked; stands = next-stands (s .walked .graph) _ _ (c .before .before .before .before .before .before .before .before .before .before .before .before .before .before .before .args .passed) (c .before .before .before .before .before .before .before .before .reach .ensures s) (c .before .before .before .before .at .given .1) }, omega (arith, room s, c .before .before .before .before .before .before .before .before .reach .kept)), (omega (arith, c .before .before .before .before .before .before .before .before .before .before .before .if1 .left), c .before .before .before .before .before .before .before .before .before .before .before .before .before .before .before .pre .1))
 
 same-length : tie.Need-same-length
 same-length c = search needs
 
 returns-3 : tie.Need-returns-3
-returns-3 c =
-    λ s. inr (c .before .before .before .before .before .before .before .before .fill .ensures (s .graph) (s .fits) (next-stands (s .graph) _ _ _ _ _ _ (c .before .before .before .before .before .before .before .before .before .before .before .before .before .before .before .before .before .before .before .before .before .before .before .before .before .reach .ensures s .0) (c .before .before .before .before .before .before .before .before .before .before .before .before .before .before .before .before .before .depth .given .1)) (c .before .before .before .before .before .before .before .before .before .before .before .before .before .before .before .before .before .before .before .before .before .before .before .before .before .reach .ensures s .1 _ (c .before .before .before .before .before .before .before .before .before .before .before .before .before .before .before .before .before .depth .given .1)))
+returns-3 c = λ s. inr (c .before .before .before .before .fill .ensures .1 (s .walked .graph) (s .walked .fits) (next-stands (s .walked .graph) _ _ (c .before .before .before .before .before .before .before .before .before .before .before .before .before .before .before .before .before .before .before .before .args .passed) (c .before .before .before .before .before .before .before .before .before .before .before .before .before .reach .ensures s) (c .before .before .before .before .before .before .before .before .before .at .given .1)) .0)
 
 pub stretch-spec : {M : Type 1} → statement M
 stretch-spec =
@@ -87,21 +55,13 @@ stretch-spec =
     returns
     slice-aggregate-reach
     slice-aggregate-reach-2
-    slice-aggregate-reach-3
-    slice-aggregate-reach-4
-    slice-aggregate-reach-5
-    slice-aggregate-reach-6
     add-reach
     reach-requires
+    enum-known-at
     enum-told
-    enum-known-depth
+    returns-2
     slice-aggregate-fill
     slice-aggregate-fill-2
-    slice-aggregate-fill-3
-    slice-aggregate-fill-4
-    slice-aggregate-fill-5
-    slice-aggregate-fill-6
     fill-requires
-    returns-2
     same-length
     returns-3)

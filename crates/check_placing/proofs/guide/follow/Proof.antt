@@ -13,23 +13,23 @@ use Rattle.check_placing.proofs.guide.follow.Statement.{statement}
 use Rattle.check_placing.proofs.guide.follow.Tie as tie
 
 abbrev Inv-loop : tie.InvT-loop
-Inv-loop parent n roots under-low under-high placing low₀ high₀ left₀ low high left =
-    Wide low high
-    × (left ≤ n * n + 1)
-    × ((g : Graph) → Standing g (take n placing) n parent roots under-low under-high (n * n + 1) low₀ high₀ →
-    Standing g (take n placing) n parent roots under-low under-high left low high)
+Inv-loop owner trees under placing sets₀ n left₀ sets left =
+    Wide sets
+    × (left ≤ trees .n * trees .n + 1)
+    × ((g : Graph) → Standing g (take (trees .n) placing) trees owner under (trees .n * trees .n + 1) sets₀ →
+    Standing g (take (trees .n) placing) trees owner under left sets)
 
 abbrev μ-loop : tie.MeasureT-loop
-μ-loop parent n roots under-low under-high placing low₀ high₀ left₀ low high left = left
+μ-loop owner trees under placing sets₀ n left₀ sets left = left
 
 mul-left : tie.Need-mul-left Inv-loop μ-loop
-mul-left c = omega (arith, mul-le-mul (c .before .before .before .before .before .before .pre .0 .0 .few) (c .before .before .before .before .before .before .pre .0 .0 .few))
+mul-left c = omega (arith, mul-le-mul (c .before .before .before .before .pre .0 .bounded .few) (c .before .before .before .before .pre .0 .bounded .few))
 
 add-left : tie.Need-add-left Inv-loop μ-loop
-add-left c = omega (arith, mul-le-mul (c .before .before .before .before .before .before .pre .0 .0 .few) (c .before .before .before .before .before .before .pre .0 .0 .few))
+add-left c = omega (arith, mul-le-mul (c .before .before .before .before .pre .0 .bounded .few) (c .before .before .before .before .pre .0 .bounded .few))
 
 loop-holds : tie.Need-loop-holds Inv-loop μ-loop
-loop-holds c = ((search needs, search needs), omega arith, λ g st. st)
+loop-holds c = (search needs, omega arith, λ g st. st)
 
 turn-requires : tie.Need-turn-requires Inv-loop μ-loop
 turn-requires c κs = search needs
@@ -40,14 +40,11 @@ settles-requires c κs = search needs
 same-length : tie.Need-same-length Inv-loop μ-loop
 same-length c = search needs
 
-same-length-2 : tie.Need-same-length-2 Inv-loop μ-loop
-same-length-2 c = search needs
-
 returns : tie.Need-returns Inv-loop μ-loop
 returns c =
-    let l = c .before .before .before .before .before .before .before .before .before .before .before .before .loop in
+    let l = c .before .before .before .before .before .before .before .before .loop in
     λ g st s f.
-    let end = c .before .before .before .before .before .before .before .before .turn .ensures g _ (l .left) (l .inv .2 g st) .1 (not-true (c .before .before .before .before .before .before .before .before .turn .result) (c .before .before .before .if1 .taken)) in
+    let end = c .before .before .before .before .before .turn .ensures g _ (l .left) (l .inv .2 g st) .1 (not-true (c .before .before .before .before .before .turn .result) (c .before .before .if1 .taken)) in
     reads (c .settles .result) end (c .settles .ensures (end .graph) (end .given)) s f
 
 sub-left : tie.Need-sub-left Inv-loop μ-loop
@@ -58,17 +55,14 @@ loop-less c = search needs
 
 loop-again : tie.Need-loop-again Inv-loop μ-loop
 loop-again c =
-    let l = c .before .before .before .before .before .before .before .before .before .loop in (
-      (search needs, search needs),
+    let l = c .before .before .before .before .before .before .loop in (
+      search needs,
       omega arith,
-      λ g st. c .before .before .before .before .before .turn .ensures g _ (l .left) (l .inv .2 g st) .0 (not-false (c .before .before .before .before .before .turn .result) (c .if1 .left)),
+      λ g st. c .before .before .before .turn .ensures g _ (l .left) (l .inv .2 g st) .0 (not-false (c .before .before .before .turn .result) (c .if1 .left)),
     )
 
-same-length-3 : tie.Need-same-length-3 Inv-loop μ-loop
-same-length-3 c = search needs
-
-same-length-4 : tie.Need-same-length-4 Inv-loop μ-loop
-same-length-4 c = search needs
+same-length-2 : tie.Need-same-length-2 Inv-loop μ-loop
+same-length-2 c = search needs
 
 returns-2 : tie.Need-returns-2 Inv-loop μ-loop
 returns-2 c =
@@ -87,11 +81,9 @@ follow-spec =
     turn-requires
     settles-requires
     same-length
-    same-length-2
     returns
     sub-left
     loop-less
     loop-again
-    same-length-3
-    same-length-4
+    same-length-2
     returns-2)

@@ -2,7 +2,7 @@
 use mathlib.Core.Path.{sym}
 use mathlib.Core.Bool.{true≢false}
 use Rattle.solve_reduce.proofs.Found.{chosen-none, chosen-choice, found-bounds}
-use Rattle.check_placing.proofs.Guides.{turned, ended}
+use Rattle.check_placing.proofs.Guides.{owned, turned, ended}
 use borrow.Author.Needs.{needs}
 use Rattle.check_placing.proofs.guide.turn.Statement.{statement}
 use Rattle.check_placing.proofs.guide.turn.Tie as tie
@@ -19,32 +19,30 @@ enum-told c = search needs
 same-length : tie.Need-same-length
 same-length c = search needs
 
-same-length-2 : tie.Need-same-length-2
-same-length-2 c = search needs
-
 returns : tie.Need-returns
 returns c = λ g p k st. (λ e. absurd (true≢false (sym e)), λ e. ended st (chosen-none (st .graph) (c .before .before .choose .ensures .1 (st .graph) (st .given)) (c .enum-told .given .1)))
 
 half-requires : tie.Need-half-requires
 half-requires c κs =
     let b = found-bounds (c .before .v .given .1) (c .before .before .before .choose .ensures .0) in
-    (c .before .before .before .before .before .before .before .before .before .before .before .pre .0, (search needs, search needs), b .1, b .2)
+    (owned (c .before .before .before .before .before .before .before .before .pre .0) _ (b .1), owned (c .before .before .before .before .before .before .before .before .pre .0) _ (b .2), c .before .before .before .before .before .before .before .before .pre .1)
 
 add-requires : tie.Need-add-requires
-add-requires c κs = search needs
+add-requires c κs =
+    let b = found-bounds (c .before .before .before .v .given .1) (c .before .before .before .before .before .choose .ensures .0) in
+    let w = c .before .half .ensures .0 _ (c .before .before .before .before .before .before .before .before .before .before .pre .0) (b .1) (b .2) in
+    (search needs, c .before .before .before .before .before .before .before .before .before .before .pre .0 .bounded, w .0, w .1)
 
-same-length-3 : tie.Need-same-length-3
-same-length-3 c = search needs
-
-same-length-4 : tie.Need-same-length-4
-same-length-4 c = search needs
+same-length-2 : tie.Need-same-length-2
+same-length-2 c = search needs
 
 returns-2 : tie.Need-returns-2
 returns-2 c =
-    let next = c .before .before .before .before .before .before .before .half in
+    let next = c .before .before .before .before .half in
+    let b = found-bounds (c .before .before .before .before .before .before .v .given .1) (c .before .before .before .before .before .before .before .before .choose .ensures .0) in
     λ g p k st.
-    let pick = chosen-choice (st .graph) (c .before .before .before .before .before .before .before .before .before .before .before .choose .ensures .1 (st .graph) (st .given)) (c .before .before .before .before .before .before .before .before .before .v .given .1) in (
-      λ e. turned st _ _ _ (next .result) pick (next .ensures .1 (st .graph) p _ (st .given .shaped) (st .tree) (st .under) pick (st .solved)) (c .before .before .before .before .add .ensures),
+    let pick = chosen-choice (st .graph) (c .before .before .before .before .before .before .before .before .choose .ensures .1 (st .graph) (st .given)) (c .before .before .before .before .before .before .v .given .1) in (
+      λ e. turned st _ _ _ (next .result) pick (next .ensures .1 (st .graph) _ p _ (st .fits) (b .1) (b .2) (st .under-is) pick (st .solved)) (c .before .before .add .ensures),
       λ e. absurd (true≢false e),
     )
 
@@ -56,10 +54,8 @@ turn-spec =
     enum-known-v
     enum-told
     same-length
-    same-length-2
     returns
     half-requires
     add-requires
-    same-length-3
-    same-length-4
+    same-length-2
     returns-2)

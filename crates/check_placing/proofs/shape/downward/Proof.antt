@@ -13,10 +13,10 @@ use Rattle.check_placing.proofs.shape.downward.Statement.{statement}
 use Rattle.check_placing.proofs.shape.downward.Tie as tie
 
 abbrev Inv-loop : tie.InvT-loop
-Inv-loop heads-low heads-high low high n l₀ l = (l ≤ n) × ((k : ℕ) → k < l → any 128 (outside heads-low heads-high low high k) ≡ false)
+Inv-loop heads-low heads-high rows n l₀ l = (l ≤ n) × ((k : ℕ) → k < l → any 128 (outside heads-low heads-high rows k) ≡ false)
 
 abbrev μ-loop : tie.MeasureT-loop
-μ-loop heads-low heads-high low high n l₀ l = n - l
+μ-loop heads-low heads-high rows n l₀ l = n - l
 
 loop-holds : tie.Need-loop-holds Inv-loop μ-loop
 loop-holds c = (omega arith, below-none _)
@@ -26,8 +26,8 @@ strays-requires c κs = search needs
 
 returns : tie.Need-returns Inv-loop μ-loop
 returns c =
-    let a = c .before .before .before .before .before .before .before .before .args in
-    sym (downward-fails (a .n) (now (a .heads-low)) (now (a .heads-high)) (now (a .low)) (now (a .high)) (c .before .before .before .loop .l) (omega arith) (sym (c .before .strays .ensures) ∙ c .if1 .taken))
+    let a = c .before .before .before .before .before .before .before .args in
+    sym (downward-fails (a .n) (now (a .heads-low)) (now (a .heads-high)) (now (a .rows)) (c .before .before .before .loop .l) (omega arith) (sym (c .before .strays .ensures) ∙ c .if1 .taken))
 
 add-l : tie.Need-add-l Inv-loop μ-loop
 add-l c = search needs
@@ -40,9 +40,9 @@ loop-again c = (omega arith, below-more _ _ (c .before .before .before .loop .in
 
 returns-2 : tie.Need-returns-2 Inv-loop μ-loop
 returns-2 c =
-    let a = c .before .before .before .before .before .before .args in
+    let a = c .before .before .before .before .before .args in
     let l = c .before .loop in
-    sym (downward-every (a .n) (now (a .heads-low)) (now (a .heads-high)) (now (a .low)) (now (a .high)) (λ k h. l .inv .1 k (omega arith)))
+    sym (downward-every (a .n) (now (a .heads-low)) (now (a .heads-high)) (now (a .rows)) (λ k h. l .inv .1 k (omega arith)))
 
 pub downward-spec : {M : Type 1} → statement M
 downward-spec =

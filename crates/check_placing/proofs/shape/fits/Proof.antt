@@ -11,12 +11,12 @@ use Rattle.check_placing.proofs.shape.fits.Tie as tie
 returns : tie.Need-returns
 returns c =
     let a = c .before .args in
-    sym (fits-none (a .n) (a .leaves) (a .roots) (a .v) (a .byte) (c .if1 .taken))
+    sym (fits-none (a .trees) (a .v) (a .byte) (c .if1 .taken))
 
 returns-2 : tie.Need-returns-2
 returns-2 c =
-    let a = c .before .before .args in
-    sym (fits-beyond (a .n) (a .leaves) (a .roots) (a .v) (a .byte) (c .before .if1 .left) (c .if2 .taken))
+    let a = c .before .before .before .args in
+    sym (fits-beyond (a .trees) (a .v) (a .byte) (c .before .before .if1 .left) (c .if2 .taken))
 
 has-requires : tie.Need-has-requires
 has-requires c κs = search needs
@@ -26,15 +26,23 @@ has-requires-2 c κs = search needs
 
 returns-3 : tie.Need-returns-3
 returns-3 c =
-    let a = c .before .before .before .before .before .args in
-    let is-root : mem (a .roots) (a .v) ≡ true = sym (c .before .before .has .ensures) ∙ c .before .if3 .taken in
-    c .has2 .ensures ∙ sym (fits-node (a .n) (a .leaves) (a .roots) (a .v) (a .byte) (c .before .before .before .before .if1 .left) (omega arith) ∙ rw is-root)
+    let a = c .before .before .before .before .before .before .args in
+    let is-root : mem (a .trees .roots) (a .v) ≡ true = sym (c .before .before .has .ensures) ∙ c .before .if3 .taken in
+    c .has2 .ensures ∙ sym (fits-node (a .trees) (a .v) (a .byte) (c .before .before .before .before .before .if1 .left) (omega arith) ∙ rw is-root)
 
 returns-4 : tie.Need-returns-4
 returns-4 c =
-    let a = c .before .before .before .before .args in
-    let no-root : mem (a .roots) (a .v) ≡ false = sym (c .before .has .ensures) ∙ c .if3 .left in
-    sym (fits-node (a .n) (a .leaves) (a .roots) (a .v) (a .byte) (c .before .before .before .if1 .left) (omega arith) ∙ rw no-root)
+    let a = c .before .before .before .before .before .args in
+    let no-root : mem (a .trees .roots) (a .v) ≡ false = sym (c .before .has .ensures) ∙ c .if3 .left in
+    sym (fits-node (a .trees) (a .v) (a .byte) (c .before .before .before .before .if1 .left) (omega arith) ∙ rw no-root)
 
 pub fits-spec : {M : Type 1} → statement M
-fits-spec = tie.close (tie.spec returns returns-2 has-requires has-requires-2 returns-3 returns-4)
+fits-spec =
+    tie.close
+    (tie.spec
+    returns
+    returns-2
+    has-requires
+    has-requires-2
+    returns-3
+    returns-4)

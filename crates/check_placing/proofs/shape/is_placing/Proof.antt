@@ -13,10 +13,10 @@ use Rattle.check_placing.proofs.shape.is_placing.Statement.{statement}
 use Rattle.check_placing.proofs.shape.is_placing.Tie as tie
 
 abbrev Inv-loop : tie.InvT-loop
-Inv-loop placing n leaves roots v₀ v = (v ≤ n) × ((k : ℕ) → k < v → fits n leaves roots k (getD placing k 0) ≡ true)
+Inv-loop placing trees v₀ end v = (v ≤ trees .n) × ((k : ℕ) → k < v → fits trees k (getD placing k 0) ≡ true)
 
 abbrev μ-loop : tie.MeasureT-loop
-μ-loop placing n leaves roots v₀ v = n - v
+μ-loop placing trees v₀ end v = trees .n - v
 
 loop-holds : tie.Need-loop-holds Inv-loop μ-loop
 loop-holds c = (omega arith, below-none _)
@@ -32,7 +32,7 @@ returns c =
     let a = c .before .before .before .before .before .before .args in
     let l = c .before .before .before .before .loop in
     let f = c .before .fits2 in
-    sym (placing-fails (a .n) (a .leaves) (a .roots) (now (a .placing)) (l .v) (omega arith) (sym (f .ensures) ∙ not-true (f .result) (c .if1 .taken)))
+    sym (placing-fails (a .trees) (now (a .placing)) (l .v) (omega arith) (sym (f .ensures) ∙ not-true (f .result) (c .if1 .taken)))
 
 add-v : tie.Need-add-v Inv-loop μ-loop
 add-v c = search needs
@@ -49,7 +49,7 @@ returns-2 : tie.Need-returns-2 Inv-loop μ-loop
 returns-2 c =
     let a = c .before .before .before .args in
     let l = c .before .loop in
-    sym (placing-every (a .n) (a .leaves) (a .roots) (now (a .placing)) (λ k h. l .inv .1 k (omega arith)))
+    sym (placing-every (a .trees) (now (a .placing)) (λ k h. l .inv .1 k (omega arith)))
 
 pub is-placing-spec : {M : Type 1} → statement M
 is-placing-spec =

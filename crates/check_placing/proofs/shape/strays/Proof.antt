@@ -30,4 +30,9 @@ returns c =
 pub strays-spec : {M : Type 1} → statement M
 strays-spec =
     tie.close
-    (tie.spec set-at-requires set-at-requires-2 difference-requires is-empty-requires returns)
+    (tie.spec
+    set-at-requires
+    set-at-requires-2
+    difference-requires
+    is-empty-requires
+    returns)

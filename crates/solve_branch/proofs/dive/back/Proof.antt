@@ -2,17 +2,17 @@
 use Prim.Native.Nat.{ℕ, _≤_, _<_}
 use native.Mathlib.Omega.{arith}
 use denote.Ref.{now}
-use lib.ListN.{getD}
+use Rattle.solve_branch.specs.Decisions.{upperAt, lowerAt}
+use Rattle.solve_branch.proofs.Walks.{second-or-after}
 use borrow.Author.Needs.{needs}
-use Rattle.solve_branch.proofs.Dives.{second-or-after}
 use Rattle.solve_branch.proofs.dive.back.Statement.{statement}
 use Rattle.solve_branch.proofs.dive.back.Tie as tie
 
 abbrev Inv-loop : tie.InvT-loop
-Inv-loop uppers lowers depth at₀ at = (at ≤ depth) × ((i : ℕ) → at ≤ i → i < depth → getD lowers i 0 ≤ getD uppers i 0)
+Inv-loop trail depth at₀ at = (at ≤ depth) × ((i : ℕ) → at ≤ i → i < depth → lowerAt trail i ≤ upperAt trail i)
 
 abbrev μ-loop : tie.MeasureT-loop
-μ-loop uppers lowers depth at₀ at = at
+μ-loop trail depth at₀ at = at
 
 loop-holds : tie.Need-loop-holds Inv-loop μ-loop
 loop-holds c = (omega arith, λ i a b. absurd (omega arith))
@@ -20,8 +20,17 @@ loop-holds c = (omega arith, λ i a b. absurd (omega arith))
 sub-last : tie.Need-sub-last Inv-loop μ-loop
 sub-last c = search needs
 
+mul-if1 : tie.Need-mul-if1 Inv-loop μ-loop
+mul-if1 c = search needs
+
 shared-slice-read-if1 : tie.Need-shared-slice-read-if1 Inv-loop μ-loop
 shared-slice-read-if1 c = omega (arith, c .before .before .loop .inv .0, c .before .before .before .pre)
+
+mul-if1-2 : tie.Need-mul-if1-2 Inv-loop μ-loop
+mul-if1-2 c = search needs
+
+add-if1 : tie.Need-add-if1 Inv-loop μ-loop
+add-if1 c = search needs
 
 shared-slice-read-if1-2 : tie.Need-shared-slice-read-if1-2 Inv-loop μ-loop
 shared-slice-read-if1-2 c = omega (arith, c .before .before .before .loop .inv .0, c .before .before .before .before .pre)
@@ -36,7 +45,7 @@ loop-again : tie.Need-loop-again Inv-loop μ-loop
 loop-again c =
     let l = c .before .before .before .before .loop in (
       omega (arith, l .inv .0),
-      λ i a b. second-or-after (now (c .before .before .before .before .before .args .uppers)) (now (c .before .before .before .before .before .args .lowers)) (l .at) i (c .if1 .left) (λ h. l .inv .1 i h b) a,
+      λ i a b. second-or-after (now (c .before .before .before .before .before .args .trail)) (l .at) i (c .if1 .left) (λ h. l .inv .1 i h b) a,
     )
 
 returns-2 : tie.Need-returns-2 Inv-loop μ-loop
@@ -52,7 +61,10 @@ back-spec =
     μ-loop
     loop-holds
     sub-last
+    mul-if1
     shared-slice-read-if1
+    mul-if1-2
+    add-if1
     shared-slice-read-if1-2
     returns
     loop-less

@@ -1,47 +1,38 @@
 -- Each turn enters a first half; what is known is what follows if the graph there has a solved form.
-use Prim.Native.Nat.{ℕ, _-_, _≤_, _<_}
+use Prim.Native.Nat.{ℕ, _*_, _-_, _≤_, _<_}
 use mathlib.Core.Path.{_≡_, refl, sym, _∙_}
 use native.Mathlib.Omega.{arith}
-use denote.Ref.{now}
 use lib.ListN.{length}
 use Rattle.graph.specs.Graph.{Graph}
-use Rattle.theory_list.proofs.Keeping.{first-fresh}
-use Rattle.solve_reduce.specs.Reduced.{Wide}
-use Rattle.solve_branch.specs.Decisions.{Kept}
-use Rattle.solve_branch.specs.Fits.{Owned}
-use Rattle.solve_branch.specs.States.{Diving}
-use Rattle.solve_branch.specs.Levels.{Levels, Saved}
+use Rattle.base_tables.specs.Trees.{Fits}
 use Rattle.solve_reduce.proofs.Found.{found-bounds, chosen-none, chosen-choice}
-use Rattle.solve_branch.proofs.Fitting.{owned-in}
-use Rattle.solve_branch.proofs.Dives.{loopless, diving-given, diving-stands, diving-first, kept-all, kept-set, stuck-not-to, same-depth, reached-there}
-use Rattle.solve_branch.proofs.Saved.{saved-fewer, saved-there, saved-set}
+use Rattle.solve_branch.specs.Decisions.{Kept}
+use Rattle.solve_branch.specs.Levels.{Stack}
+use Rattle.solve_branch.specs.States.{Dives}
+use Rattle.solve_branch.proofs.Tables.{kept-all, kept-wrote, noted-written}
+use Rattle.solve_branch.proofs.Walks.{dives-form, dives-stands, dives-next}
 use borrow.Author.Needs.{needs}
 use Rattle.solve_branch.proofs.dive.dive.Statement.{statement}
 use Rattle.solve_branch.proofs.dive.dive.Tie as tie
 
 abbrev Inv-loop : tie.InvT-loop
-Inv-loop owner n roots low₀ high₀ saved-low₀ saved-high₀ uppers₀ lowers₀ depth latest at₀ leaf₀ low high saved-low saved-high uppers lowers at leaf =
-    (depth ≤ at)
-    × Wide low high
-    × (length uppers ≡ length uppers₀)
-    × (length lowers ≡ length lowers₀)
-    × Kept depth uppers₀ lowers₀ uppers lowers
-    × ((g : Graph) (k : ℕ) → Owned g n owner roots → Diving g uppers₀ lowers₀ low₀ high₀ depth latest k → Diving g uppers lowers low high at leaf k)
-    × Levels saved-low saved-high
-    × ((g : Graph) (k : ℕ) → Owned g n owner roots → Diving g uppers₀ lowers₀ low₀ high₀ depth latest k → Saved g uppers₀ lowers₀ saved-low₀ saved-high₀ depth → Saved g uppers lowers saved-low saved-high at)
-    × (leaf < n)
+Inv-loop owner trees states₀ trail₀ latest here₀ leaf₀ states trail here leaf =
+    (here₀ .depth ≤ here .depth)
+    × Stack states
+    × (length trail ≡ length trail₀)
+    × (2 * here .depth ≤ length trail)
+    × (leaf < trees .n)
+    × Kept (here₀ .depth) trail₀ trail
+    × ((g : Graph) (k : ℕ) → Fits g trees owner → Dives g trail₀ states₀ here₀ leaf₀ k → Dives g trail states here leaf k)
 
 abbrev μ-loop : tie.MeasureT-loop
-μ-loop owner n roots low₀ high₀ saved-low₀ saved-high₀ uppers₀ lowers₀ depth latest at₀ leaf₀ low high saved-low saved-high uppers lowers at leaf = length uppers₀ - at
+μ-loop owner trees states₀ trail₀ latest here₀ leaf₀ states trail here leaf = length trail₀ - here .depth
 
 loop-holds : tie.Need-loop-holds Inv-loop μ-loop
-loop-holds c = (omega arith, c .before .before .before .before .before .before .before .pre .2, refl, refl, kept-all _ _ _, λ g k o x. x, c .before .before .before .before .before .before .before .pre .3, λ g k o x sv. sv, c .before .before .before .before .before .before .before .pre .4)
+loop-holds c = (omega arith, c .before .before .before .pre .1, refl, c .before .before .before .pre .2, c .before .before .before .pre .3, kept-all _ _, λ g k f x. x)
 
-set-at-requires : tie.Need-set-at-requires Inv-loop μ-loop
-set-at-requires c κs = (omega (arith, c .before .before .loop .inv .1 .0, c .before .before .loop .inv .8, c .before .before .before .before .before .before .before .before .before .before .pre .1), omega (arith, c .before .before .loop .inv .1 .1, c .before .before .loop .inv .8, c .before .before .before .before .before .before .before .before .before .before .pre .1))
-
-has-requires : tie.Need-has-requires Inv-loop μ-loop
-has-requires c κs = omega (arith, c .before .before .before .loop .inv .8, c .before .before .before .before .before .before .before .before .before .before .before .pre .1)
+closed-requires : tie.Need-closed-requires Inv-loop μ-loop
+closed-requires c κs = (c .before .loop .inv .1, omega (arith, c .before .loop .inv .4, c .before .before .before .before .before .pre .0 .bounded .few))
 
 same-length : tie.Need-same-length Inv-loop μ-loop
 same-length c = search needs
@@ -49,23 +40,11 @@ same-length c = search needs
 same-length-2 : tie.Need-same-length-2 Inv-loop μ-loop
 same-length-2 c = search needs
 
-same-length-3 : tie.Need-same-length-3 Inv-loop μ-loop
-same-length-3 c = search needs
-
-same-length-4 : tie.Need-same-length-4 Inv-loop μ-loop
-same-length-4 c = search needs
-
-same-length-5 : tie.Need-same-length-5 Inv-loop μ-loop
-same-length-5 c = search needs
-
-same-length-6 : tie.Need-same-length-6 Inv-loop μ-loop
-same-length-6 c = search needs
-
 returns : tie.Need-returns Inv-loop μ-loop
-returns c = (c .before .before .before .before .before .loop .inv .4, λ g k o x. (λ depth is. absurd (stuck-not-to is), λ sv. (saved-fewer _ refl refl (c .before .before .before .before .before .loop .inv .0) (c .before .before .before .before .before .loop .inv .7 g k o x sv), λ depth is. absurd (stuck-not-to is))))
+returns c = ((c .before .before .before .loop .inv .5, c .before .before .before .loop .inv .0), λ g k f x. c .before .before .before .loop .inv .6 g k f x .matches)
 
-choose-requires : tie.Need-choose-requires Inv-loop μ-loop
-choose-requires c κs = (c .before .before .before .before .before .before .before .loop .inv .1, c .before .before .before .before .before .before .before .before .before .before .before .before .before .before .before .pre .1)
+fork-requires : tie.Need-fork-requires Inv-loop μ-loop
+fork-requires c κs = (c .before .before .before .before .loop .inv .1, c .before .before .before .before .before .before .before .before .pre .0 .bounded .few)
 
 enum-known-v : tie.Need-enum-known-v Inv-loop μ-loop
 enum-known-v c = search needs
@@ -73,121 +52,65 @@ enum-known-v c = search needs
 enum-told : tie.Need-enum-told Inv-loop μ-loop
 enum-told c = search needs
 
-same-length-7 : tie.Need-same-length-7 Inv-loop μ-loop
-same-length-7 c = search needs
+same-length-3 : tie.Need-same-length-3 Inv-loop μ-loop
+same-length-3 c = search needs
 
-same-length-8 : tie.Need-same-length-8 Inv-loop μ-loop
-same-length-8 c = search needs
-
-same-length-9 : tie.Need-same-length-9 Inv-loop μ-loop
-same-length-9 c = search needs
-
-same-length-10 : tie.Need-same-length-10 Inv-loop μ-loop
-same-length-10 c = search needs
-
-same-length-11 : tie.Need-same-length-11 Inv-loop μ-loop
-same-length-11 c = search needs
-
-same-length-12 : tie.Need-same-length-12 Inv-loop μ-loop
-same-length-12 c = search needs
+same-length-4 : tie.Need-same-length-4 Inv-loop μ-loop
+same-length-4 c = search needs
 
 returns-2 : tie.Need-returns-2 Inv-loop μ-loop
 returns-2 c =
-    let l = c .before .before .before .before .before .before .before .before .before .before .loop in
-    let k = c .before .before .choose in (
-      l .inv .4,
-      λ g j o x.
-          let y = l .inv .5 g j o x in
-          let free = sym (c .before .before .before .before .before .before .before .set-at .ensures (l .leaf)) ∙ sym (c .before .before .before .before .before .before .has .ensures) ∙ c .before .before .before .before .before .if1 .left in
-          let stands = diving-stands o y (l .inv .8) free (chosen-none _ (k .ensures .1 _ (diving-given o y (l .inv .8) free)) (c .enum-told .given .1)) in
-          (λ depth is. reached-there is stands, λ sv. let all = l .inv .7 g j o x sv in (saved-fewer _ refl refl (l .inv .0) all, λ depth is. saved-there (same-depth is) all)),
+    let l = c .before .before .before .before .before .before .before .loop in (
+      (l .inv .5, l .inv .0),
+      λ g k f x.
+          let y = l .inv .6 g k f x in
+          let free = sym (c .before .before .before .before .before .closed .ensures) ∙ c .before .before .before .before .if1 .left in
+          dives-stands f y (l .inv .4) free (chosen-none _ (c .before .before .fork .ensures .1 _ (dives-form f y (l .inv .4) free)) (c .enum-told .given .1)),
     )
 
-same-length-13 : tie.Need-same-length-13 Inv-loop μ-loop
-same-length-13 c = search needs
+mul-if2 : tie.Need-mul-if2 Inv-loop μ-loop
+mul-if2 c = search needs
 
-same-length-14 : tie.Need-same-length-14 Inv-loop μ-loop
-same-length-14 c = search needs
+sub-if2 : tie.Need-sub-if2 Inv-loop μ-loop
+sub-if2 c = search needs
 
-same-length-15 : tie.Need-same-length-15 Inv-loop μ-loop
-same-length-15 c = search needs
+same-length-5 : tie.Need-same-length-5 Inv-loop μ-loop
+same-length-5 c = search needs
 
-same-length-16 : tie.Need-same-length-16 Inv-loop μ-loop
-same-length-16 c = search needs
-
-same-length-17 : tie.Need-same-length-17 Inv-loop μ-loop
-same-length-17 c = search needs
-
-same-length-18 : tie.Need-same-length-18 Inv-loop μ-loop
-same-length-18 c = search needs
+same-length-6 : tie.Need-same-length-6 Inv-loop μ-loop
+same-length-6 c = search needs
 
 returns-3 : tie.Need-returns-3 Inv-loop μ-loop
-returns-3 c = (c .before .before .before .before .before .before .before .before .before .before .before .before .loop .inv .4, λ g k o x. (λ depth is. absurd (stuck-not-to is), λ sv. (saved-fewer _ refl refl (c .before .before .before .before .before .before .before .before .before .before .before .before .loop .inv .0) (c .before .before .before .before .before .before .before .before .before .before .before .before .loop .inv .7 g k o x sv), λ depth is. absurd (stuck-not-to is))))
+returns-3 c = ((c .before .before .before .before .before .before .before .before .before .before .loop .inv .5, c .before .before .before .before .before .before .before .before .before .before .loop .inv .0), λ g k f x. c .before .before .before .before .before .before .before .before .before .before .loop .inv .6 g k f x .matches)
 
-same-length-19 : tie.Need-same-length-19 Inv-loop μ-loop
-same-length-19 c = search needs
+write-requires : tie.Need-write-requires Inv-loop μ-loop
+write-requires c κs =
+    let b = found-bounds (c .before .before .before .before .v .given .1) (c .before .before .before .before .before .before .fork .ensures .0) in
+    (omega (arith, c .before .if2 .left, c .before .before .before .before .before .before .before .before .before .before .before .loop .inv .3), omega (arith, b .1, c .before .before .before .before .before .before .before .before .before .before .before .before .before .before .before .pre .0 .bounded .few), omega (arith, b .2, c .before .before .before .before .before .before .before .before .before .before .before .before .before .before .before .pre .0 .bounded .few))
 
-same-length-20 : tie.Need-same-length-20 Inv-loop μ-loop
-same-length-20 c = search needs
-
-same-length-21 : tie.Need-same-length-21 Inv-loop μ-loop
-same-length-21 c = search needs
-
-same-length-22 : tie.Need-same-length-22 Inv-loop μ-loop
-same-length-22 c = search needs
-
-same-length-23 : tie.Need-same-length-23 Inv-loop μ-loop
-same-length-23 c = search needs
-
-same-length-24 : tie.Need-same-length-24 Inv-loop μ-loop
-same-length-24 c = search needs
-
-returns-4 : tie.Need-returns-4 Inv-loop μ-loop
-returns-4 c = (c .before .before .before .before .before .before .before .before .before .before .before .before .before .loop .inv .4, λ g k o x. (λ depth is. absurd (stuck-not-to is), λ sv. (saved-fewer _ refl refl (c .before .before .before .before .before .before .before .before .before .before .before .before .before .loop .inv .0) (c .before .before .before .before .before .before .before .before .before .before .before .before .before .loop .inv .7 g k o x sv), λ depth is. absurd (stuck-not-to is))))
-
-save-requires : tie.Need-save-requires Inv-loop μ-loop
-save-requires c κs = (c .before .before .before .before .before .before .before .before .before .before .before .before .before .before .before .before .before .loop .inv .1, c .before .before .before .before .before .before .before .before .before .before .before .before .before .before .before .before .before .before .before .before .before .before .before .before .before .pre .1, c .before .before .before .before .before .before .before .before .before .before .before .before .before .before .before .before .before .loop .inv .6)
-
-add-half-requires : tie.Need-add-half-requires Inv-loop μ-loop
-add-half-requires c κs =
-    let b = found-bounds (c .before .before .before .before .before .before .before .before .before .before .before .before .before .before .v .given .1) (c .before .before .before .before .before .before .before .before .before .before .before .before .before .before .before .before .choose .ensures .0) in
-    (c .before .before .before .before .before .before .before .before .before .before .before .before .before .before .before .before .before .before .before .before .before .before .before .before .before .before .before .before .before .before .before .before .pre .0, c .before .before .before .before .before .before .before .before .before .before .before .before .before .before .before .before .before .before .before .before .before .before .before .before .loop .inv .1, c .before .before .before .before .before .before .before .before .before .before .before .before .before .before .before .before .before .before .before .before .before .before .before .before .before .before .before .before .before .before .before .before .pre .1, b .1, b .2)
-
-cast-uppers : tie.Need-cast-uppers Inv-loop μ-loop
-cast-uppers c = omega (arith, found-bounds (c .before .before .before .before .before .before .before .before .before .before .before .before .before .before .before .before .before .before .before .v .given .1) (c .before .before .before .before .before .before .before .before .before .before .before .before .before .before .before .before .before .before .before .before .before .choose .ensures .0), c .before .before .before .before .before .before .before .before .before .before .before .before .before .before .before .before .before .before .before .before .before .before .before .before .before .before .before .before .before .before .before .before .before .before .before .before .before .pre .1)
-
-slice-write-uppers : tie.Need-slice-write-uppers Inv-loop μ-loop
-slice-write-uppers c = omega (arith, c .before .before .before .before .before .before .before .before .before .before .before .before .before .before .before .before .before .if2 .left)
-
-cast-lowers : tie.Need-cast-lowers Inv-loop μ-loop
-cast-lowers c = omega (arith, found-bounds (c .before .before .before .before .before .before .before .before .before .before .before .before .before .before .before .before .before .before .before .v .given .1) (c .before .before .before .before .before .before .before .before .before .before .before .before .before .before .before .before .before .before .before .before .before .choose .ensures .0), c .before .before .before .before .before .before .before .before .before .before .before .before .before .before .before .before .before .before .before .before .before .before .before .before .before .before .before .before .before .before .before .before .before .before .before .before .before .pre .1)
-
-slice-write-lowers : tie.Need-slice-write-lowers Inv-loop μ-loop
-slice-write-lowers c = omega (arith, c .before .before .before .before .before .before .before .before .before .before .before .before .before .before .before .before .if3 .left)
-
-add-at : tie.Need-add-at Inv-loop μ-loop
-add-at c = omega (arith, c .before .before .before .before .before .before .before .before .before .before .before .before .before .before .before .before .before .if2 .left, c .before .before .before .before .before .before .before .before .before .before .before .before .before .before .before .before .before .before .before .before .before .before .before .before .before .before .before .before .before .loop .inv .2, c .before .before .before .before .before .before .before .before .before .before .before .before .before .before .before .before .before .before .before .before .before .before .before .before .before .before .before .before .before .before .before .before .before .before .before .before .before .fits, c .before .before .before .before .before .before .before .before .before .before .before .before .before .before .before .before .before .before .before .before .before .before .before .before .before .before .before .before .before .before .before .before .before .before .before .before .before .good)
+down-requires : tie.Need-down-requires Inv-loop μ-loop
+down-requires c κs =
+    let b = found-bounds (c .before .before .before .before .before .before .before .before .before .v .given .1) (c .before .before .before .before .before .before .before .before .before .before .before .fork .ensures .0) in
+    (c .before .before .before .before .before .before .before .before .before .before .before .before .before .before .before .before .before .before .before .before .pre .0, c .before .before .before .before .before .before .before .before .before .before .before .before .before .before .before .before .loop .inv .1, noted-written (c .before .before .before .before .before .before .before .before .before .before .before .before .before .before .before .before .loop .trail) _ (c .before .before .before .before .before .before .before .before .before .before .before .before .before .before .before .before .loop .here .depth) _ _ (c .before .before .before .before .write .ensures) (omega (arith, c .before .before .before .before .before .before .if2 .left, c .before .before .before .before .before .before .before .before .before .before .before .before .before .before .before .before .loop .inv .3)) (b .1) (b .2))
 
 loop-less : tie.Need-loop-less Inv-loop μ-loop
-loop-less c = omega (arith, c .before .before .before .before .before .before .before .before .before .before .before .before .before .before .before .before .before .if2 .left, c .before .before .before .before .before .before .before .before .before .before .before .before .before .before .before .before .before .before .before .before .before .before .before .before .before .before .before .before .before .loop .inv .2)
+loop-less c = omega (arith, c .before .before .before .before .before .before .before .before .before .if2 .left, c .before .before .before .before .before .before .before .before .before .before .before .before .before .before .before .before .before .before .before .loop .inv .2, c .before .before .down .ensures .0 .0)
 
 loop-again : tie.Need-loop-again Inv-loop μ-loop
 loop-again c =
-    let l = c .before .before .before .before .before .before .before .before .before .before .before .before .before .before .before .before .before .before .before .before .before .before .before .before .before .before .before .before .before .loop in
-    let k = c .before .before .before .before .before .before .before .before .before .before .before .before .before .before .before .before .before .before .before .before .before .choose in (
-      omega (arith, l .inv .0),
-      (omega (arith, l .inv .1 .0, c .before .before .before .before .add-half .kept), omega (arith, l .inv .1 .1, c .before .before .before .before .add-half .kept)),
-      search needs,
-      search needs,
-      kept-set (l .at) _ _ (l .inv .0) (l .inv .4),
-      λ g j o x.
-          let y = l .inv .5 g j o x in
-          let free = sym (c .before .before .before .before .before .before .before .before .before .before .before .before .before .before .before .before .before .before .before .before .before .before .before .before .before .before .set-at .ensures (l .leaf)) ∙ sym (c .before .before .before .before .before .before .before .before .before .before .before .before .before .before .before .before .before .before .before .before .before .before .before .before .before .has .ensures) ∙ c .before .before .before .before .before .before .before .before .before .before .before .before .before .before .before .before .before .before .before .before .before .before .before .before .if1 .left in
-          let choice = chosen-choice _ (k .ensures .1 _ (diving-given o y (l .inv .8) free)) (c .before .before .before .before .before .before .before .before .before .before .before .before .before .before .before .before .before .before .before .v .given .1) in
-          diving-first o y (loopless o y (l .inv .8) free) choice (omega (arith, c .before .before .before .before .before .before .before .before .before .before .before .before .before .before .before .before .before .if2 .left)) (omega (arith, c .before .before .before .before .before .before .before .before .before .before .before .before .before .before .before .before .if3 .left)) (c .before .before .before .before .add-half .ensures _ (owned-in _ (c .before .before .before .before .before .before .before .before .before .before .before .before .before .before .before .before .before .before .before .before .before .before .before .before .before .before .before .before .before .before .before .before .before .before .before .before .before .args .n) (now (c .before .before .before .before .before .before .before .before .before .before .before .before .before .before .before .before .before .before .before .before .before .before .before .before .before .before .before .before .before .before .before .before .before .before .before .before .before .args .owner)) (c .before .before .before .before .before .before .before .before .before .before .before .before .before .before .before .before .before .before .before .before .before .before .before .before .before .before .before .before .before .before .before .before .before .before .before .before .before .args .roots) (y .shaped) o) (first-fresh _ (y .shaped) choice) (y .reduction)),
-      (omega (arith, l .inv .6 .0, c .before .before .before .before .before .before .before .before .before .before .before .save .kept), omega (arith, l .inv .6 .1, c .before .before .before .before .before .before .before .before .before .before .before .save .kept)),
-      λ g j o x sv. saved-set (l .at) _ _ (c .before .before .before .before .before .before .before .before .before .before .before .save .ensures g _ _ (o .nodes) (l .inv .7 g j o x sv) (l .inv .5 g j o x .reduction)),
-      found-bounds (c .before .before .before .before .before .before .before .before .before .before .before .before .before .before .before .before .before .before .before .v .given .1) (k .ensures .0) .1,
+    let l = c .before .before .before .before .before .before .before .before .before .before .before .before .before .before .before .before .before .before .before .loop in
+    let b = found-bounds (c .before .before .before .before .before .before .before .before .before .before .before .before .v .given .1) (c .before .before .before .before .before .before .before .before .before .before .before .before .before .before .fork .ensures .0) in (
+      omega (arith, l .inv .0, c .before .before .down .ensures .0 .0),
+      omega (arith, l .inv .1, c .before .before .down .kept),
+      omega (arith, l .inv .2, c .before .before .before .before .before .before .before .write .kept),
+      omega (arith, c .before .before .before .before .before .before .before .before .before .if2 .left, l .inv .3, c .before .before .before .before .before .before .before .write .kept, c .before .before .down .ensures .0 .0),
+      b .1,
+      kept-wrote (l .here .depth) _ _ (l .inv .0) (c .before .before .before .before .before .before .before .write .ensures) (l .inv .5),
+      λ g k f x.
+          let y = l .inv .6 g k f x in
+          let free = sym (c .before .before .before .before .before .before .before .before .before .before .before .before .before .before .before .before .before .closed .ensures) ∙ c .before .before .before .before .before .before .before .before .before .before .before .before .before .before .before .before .if1 .left in
+          let choice = chosen-choice _ (c .before .before .before .before .before .before .before .before .before .before .before .before .before .before .fork .ensures .1 _ (dives-form f y (l .inv .4) free)) (c .before .before .before .before .before .before .before .before .before .before .before .before .v .given .1) in
+          dives-next f y (l .inv .4) free choice (omega (arith, c .before .before .before .before .before .before .before .before .before .if2 .left, l .inv .3)) (c .before .before .before .before .before .before .before .write .ensures) (c .before .before .down .ensures .0 .0) (c .before .before .down .ensures .1 g f),
     )
 
 pub dive-spec : {M : Type 1} → statement M
@@ -197,45 +120,22 @@ dive-spec =
     Inv-loop
     μ-loop
     loop-holds
-    set-at-requires
-    has-requires
+    closed-requires
     same-length
     same-length-2
-    same-length-3
-    same-length-4
-    same-length-5
-    same-length-6
     returns
-    choose-requires
+    fork-requires
     enum-known-v
     enum-told
-    same-length-7
-    same-length-8
-    same-length-9
-    same-length-10
-    same-length-11
-    same-length-12
+    same-length-3
+    same-length-4
     returns-2
-    same-length-13
-    same-length-14
-    same-length-15
-    same-length-16
-    same-length-17
-    same-length-18
+    mul-if2
+    sub-if2
+    same-length-5
+    same-length-6
     returns-3
-    same-length-19
-    same-length-20
-    same-length-21
-    same-length-22
-    same-length-23
-    same-length-24
-    returns-4
-    save-requires
-    add-half-requires
-    cast-uppers
-    slice-write-uppers
-    cast-lowers
-    slice-write-lowers
-    add-at
+    write-requires
+    down-requires
     loop-less
     loop-again)

@@ -1,39 +1,20 @@
--- The decision is that of the half entered.
+-- The first half, or the second where the first has no solved form.
+use mathlib.Core.Path.{refl, sym, _∙_}
+use mathlib.Core.Bool.{true≢false}
 use native.Mathlib.Omega.{arith}
 use denote.Ref.{now}
-use Rattle.solve_branch.proofs.Walks.{enters-first, enters-second}
-use Rattle.solve_branch.proofs.Fitting.{fits-at}
-use Rattle.solve_branch.proofs.Dives.{kept-all, kept-set}
+use Rattle.solve_branch.proofs.Tables.{kept-all, turn-kept, noted-turned}
+use Rattle.solve_branch.proofs.Stack.{matches-fewer}
+use Rattle.solve_branch.proofs.Walks.{first-open, first-fits, tested-level, enters-first, second-open, enters-second}
 use borrow.Author.Needs.{needs}
 use Rattle.solve_branch.proofs.tested.take_half.Statement.{statement}
 use Rattle.solve_branch.proofs.tested.take_half.Tie as tie
 
-enter-half-requires : tie.Need-enter-half-requires
-enter-half-requires c κs = search needs
+down-requires : tie.Need-down-requires
+down-requires c κs = search needs
 
-cast-uppers : tie.Need-cast-uppers
-cast-uppers c = search needs
-
-slice-write-uppers : tie.Need-slice-write-uppers
-slice-write-uppers c = search needs
-
-cast-lowers : tie.Need-cast-lowers
-cast-lowers c = search needs
-
-slice-write-lowers : tie.Need-slice-write-lowers
-slice-write-lowers c = search needs
-
-cast-uppers-2 : tie.Need-cast-uppers-2
-cast-uppers-2 c = search needs
-
-slice-write-uppers-2 : tie.Need-slice-write-uppers-2
-slice-write-uppers-2 c = search needs
-
-cast-lowers-2 : tie.Need-cast-lowers-2
-cast-lowers-2 c = search needs
-
-slice-write-lowers-2 : tie.Need-slice-write-lowers-2
-slice-write-lowers-2 c = search needs
+tested-requires : tie.Need-tested-requires
+tested-requires c κs = (c .before .before .before .before .before .before .before .before .before .pre .0, omega (arith, c .before .before .before .before .before .before .before .before .before .pre .1, c .before .before .before .down .kept))
 
 same-length : tie.Need-same-length
 same-length c = search needs
@@ -41,62 +22,49 @@ same-length c = search needs
 same-length-2 : tie.Need-same-length-2
 same-length-2 c = search needs
 
+returns : tie.Need-returns
+returns c = (
+  (kept-all _ _, c .before .before .before .before .before .down .ensures .0 .0),
+  λ g k v f x ch.
+      let m = first-open f x ch (c .before .before .before .before .before .down .ensures .1 g f) in
+      let is = tested-level (c .before .tested .result) m (first-fits f x ch (c .before .before .before .before .before .down .result .depth) (c .before .before .before .before .before .down .ensures .0 .0)) (c .before .tested .ensures) in
+      enters-first f x ch (c .before .before .before .before .before .down .ensures .0 .0) (is .0 (c .if1 .taken)) m,
+)
+
+swap-requires : tie.Need-swap-requires
+swap-requires c κs = c .before .before .before .before .before .before .before .before .before .before .before .before .pre .2 .long
+
+down-requires-2 : tie.Need-down-requires-2
+down-requires-2 c κs = (c .before .before .before .before .before .before .before .before .before .before .before .before .before .before .before .before .before .pre .0, omega (arith, c .before .before .before .before .before .before .before .before .before .before .before .before .before .before .before .before .before .pre .1, c .before .before .before .before .before .before .before .before .before .before .before .down .kept), noted-turned (now (c .before .before .before .before .before .before .before .before .before .before .before .before .before .before .before .before .before .args .trail)) _ (c .before .before .before .before .before .before .before .before .before .before .before .before .before .before .before .before .before .args .at .depth) _ (c .before .before .before .before .swap .ensures) refl (c .before .before .before .before .before .before .before .before .before .before .before .before .before .before .before .before .before .pre .2))
+
 same-length-3 : tie.Need-same-length-3
 same-length-3 c = search needs
 
 same-length-4 : tie.Need-same-length-4
 same-length-4 c = search needs
 
-returns : tie.Need-returns
-returns c =
-    let a = c .before .before .before .before .before .before .before .before .before .before .before .before .before .before .args in (
-      kept-set (a .depth) _ _ (omega arith) (kept-all _ _ _),
-      λ g k v f x choice.
-          enters-first (f .owned .shaped) x choice (c .before .before .before .before .before .before .before .before .before .before .before .before .before .before .pre .1 .0) (c .before .before .before .before .before .before .before .before .before .before .before .before .before .before .pre .1 .1)
-          (rw (c .if1 .taken) at (c .before .before .before .before .before .enter-half .ensures _ v (fits-at (a .n) (x .entering .valid) (now (a .parent)) (now (a .owner)) (a .roots) f) choice (x .reduction))),
-    )
-
-same-length-5 : tie.Need-same-length-5
-same-length-5 c = search needs
-
-same-length-6 : tie.Need-same-length-6
-same-length-6 c = search needs
-
-same-length-7 : tie.Need-same-length-7
-same-length-7 c = search needs
-
-same-length-8 : tie.Need-same-length-8
-same-length-8 c = search needs
-
 returns-2 : tie.Need-returns-2
-returns-2 c =
-    let a = c .before .before .before .before .before .before .before .before .before .before .before .before .before .before .args in (
-      kept-set (a .depth) _ _ (omega arith) (kept-all _ _ _),
-      λ g k v f x choice.
-          enters-second (f .owned .shaped) x choice (c .before .before .before .before .before .before .before .before .before .before .before .before .before .before .pre .1 .0) (c .before .before .before .before .before .before .before .before .before .before .before .before .before .before .pre .1 .1)
-          (rw (c .if1 .left) at (c .before .before .before .before .before .enter-half .ensures _ v (fits-at (a .n) (x .entering .valid) (now (a .parent)) (now (a .owner)) (a .roots) f) choice (x .reduction))),
-    )
+returns-2 c = (
+  (turn-kept (c .before .before .before .before .before .before .before .before .before .before .before .before .before .before .before .before .before .before .before .before .args .at .depth) (c .before .before .before .before .before .before .before .swap .ensures), c .before .before .down2 .ensures .0 .0),
+  λ g k v f x ch.
+      let m = first-open f x ch (c .before .before .before .before .before .before .before .before .before .before .before .before .before .before .down .ensures .1 g f) in
+      let is = tested-level (c .before .before .before .before .before .before .before .before .before .before .tested .result) m (first-fits f x ch (c .before .before .before .before .before .before .before .before .before .before .before .before .before .before .down .result .depth) (c .before .before .before .before .before .before .before .before .before .before .before .before .before .before .down .ensures .0 .0)) (c .before .before .before .before .before .before .before .before .before .before .tested .ensures) in
+      let o = second-open f x ch (c .before .before .before .before .before .before .before .before .before .before .before .before .before .before .before .before .before .before .before .before .pre .2 .long) _ (c .before .before .before .before .before .before .before .swap .ensures) in
+      enters-second f x ch (c .before .before .before .before .before .before .before .before .before .before .before .before .before .before .before .before .before .before .before .before .pre .2 .long) _ (c .before .before .before .before .before .before .before .before .before .before .before .before .before .before .down .result .depth) (c .before .before .before .before .before .before .before .swap .ensures) (c .before .before .down2 .ensures .0 .0) (c .before .before .before .before .before .before .before .before .before .before .before .before .before .before .down .ensures .0 .0) (λ s. true≢false (sym (is .1 s) ∙ c .before .before .before .before .before .before .before .before .before .if1 .left))
+      (c .before .before .down2 .ensures .1 g f (matches-fewer _ (o .kept) (omega (arith, c .before .before .before .before .before .before .before .before .before .before .before .before .before .before .down .ensures .0 .0)) refl (m .0)) (c .before .before .before .before .before .before .before .before .before .before .before .before .before .before .down .ensures .0 .1 (x .here)) (o .shaped) (o .fresh)),
+)
 
 pub take-half-spec : {M : Type 1} → statement M
 take-half-spec =
     tie.close
     (tie.spec
-    enter-half-requires
-    cast-uppers
-    slice-write-uppers
-    cast-lowers
-    slice-write-lowers
-    cast-uppers-2
-    slice-write-uppers-2
-    cast-lowers-2
-    slice-write-lowers-2
+    down-requires
+    tested-requires
     same-length
     same-length-2
+    returns
+    swap-requires
+    down-requires-2
     same-length-3
     same-length-4
-    returns
-    same-length-5
-    same-length-6
-    same-length-7
-    same-length-8
     returns-2)

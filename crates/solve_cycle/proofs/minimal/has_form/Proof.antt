@@ -8,33 +8,25 @@ use Rattle.solve_cycle.proofs.minimal.has_form.Tie as tie
 slice-aggregate-graph-rows : tie.Need-slice-aggregate-graph-rows
 slice-aggregate-graph-rows c = search needs
 
-slice-aggregate-graph-rows-2 : tie.Need-slice-aggregate-graph-rows-2
-slice-aggregate-graph-rows-2 c = search needs
-
 graph-rows-requires : tie.Need-graph-rows-requires
-graph-rows-requires c κs = search needs
+graph-rows-requires c κs = (c .before .before .before .before .before .pre .0 .parents-are, c .before .before .before .before .before .pre .1, search needs)
 
 slice-aggregate-solvable : tie.Need-slice-aggregate-solvable
 slice-aggregate-solvable c = search needs
 
-slice-aggregate-solvable-2 : tie.Need-slice-aggregate-solvable-2
-slice-aggregate-solvable-2 c = search needs
-
 solvable-requires : tie.Need-solvable-requires
-solvable-requires c κs = search needs
+solvable-requires c κs = (c .before .before .before .before .before .before .before .before .pre .0 .owners-are, search needs)
 
 returns : tie.Need-returns
 returns c = λ g edges t.
-    c .solvable .ensures g (well-formed-shaped (t .well-formed)) (tree-of t) (c .before .before .before .before .before .graph-rows .ensures g edges t)
+    c .solvable .ensures g (c .before .before .before .before .before .before .before .before .before .pre .0 .fits g (well-formed-shaped (t .well-formed)) (tree-of t)) (c .before .before .before .graph-rows .ensures g edges t)
 
 pub has-form-spec : {M : Type 1} → statement M
 has-form-spec =
     tie.close
     (tie.spec
     slice-aggregate-graph-rows
-    slice-aggregate-graph-rows-2
     graph-rows-requires
     slice-aggregate-solvable
-    slice-aggregate-solvable-2
     solvable-requires
     returns)

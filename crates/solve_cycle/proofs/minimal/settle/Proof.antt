@@ -24,14 +24,8 @@ same-length-2 c = search needs
 
 returns : tie.Need-returns
 returns c =
-    let p = c .before .before .before .before in
-    let i = p .before .before .before in
-    let h = i .before in
-    let a = h .before .before .before .before .before .before .before in
-    let s = a .before .before .before in
-    let r = s .before .before .before .before .before .before in
     λ g settled t.
-    settle-stays g _ _ _ _ settled t (r .args .l) (r .args .r) _ _ (a .take-out .ensures) (h .has-form .result) (h .has-form .ensures) (s .set-at .result) (s .set-at .ensures) (p .put-at .ensures) (i .if1 .taken)
+    settle-stays g _ _ _ _ settled t (c .before .before .before .before .before .before .before .before .before .before .before .before .before .before .before .before .before .before .before .before .before .before .before .before .before .args .edge .leaf) (c .before .before .before .before .before .before .before .before .before .before .before .before .before .before .before .before .before .before .before .before .before .before .before .before .before .args .edge .root) _ _ (c .before .before .before .before .before .before .before .before .before .before .before .before .before .before .before .take-out .ensures) (c .before .before .before .before .before .before .before .before .has-form .result) (c .before .before .before .before .before .before .before .before .has-form .ensures) (c .before .before .before .before .before .before .before .before .before .before .before .before .before .before .before .before .before .before .set-at .result) (c .before .before .before .before .before .before .before .before .before .before .before .before .before .before .before .before .before .before .set-at .ensures) (c .before .before .before .before .put-at .ensures) (c .before .before .before .before .before .before .before .if1 .taken)
 
 same-length-3 : tie.Need-same-length-3
 same-length-3 c = search needs
@@ -41,11 +35,8 @@ same-length-4 c = search needs
 
 returns-2 : tie.Need-returns-2
 returns-2 c =
-    let h = c .before in
-    let a = h .before .before .before .before .before .before .before in
-    let s = a .before .before .before .before .before .before .before .before .before in
     λ g settled t.
-    settle-goes g _ _ _ _ settled t (s .args .l) (s .args .r) _ _ (a .take-out .ensures) (h .has-form .result) (h .has-form .ensures) (c .if1 .left)
+    settle-goes g _ _ _ _ settled t (c .before .before .before .before .before .before .before .before .before .before .before .before .before .before .before .before .before .before .args .edge .leaf) (c .before .before .before .before .before .before .before .before .before .before .before .before .before .before .before .before .before .before .args .edge .root) _ _ (c .before .before .before .before .before .before .before .before .take-out .ensures) (c .before .has-form .result) (c .before .has-form .ensures) (c .if1 .left)
 
 pub settle-spec : {M : Type 1} → statement M
 settle-spec =

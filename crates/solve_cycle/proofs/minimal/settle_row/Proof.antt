@@ -13,19 +13,19 @@ use Rattle.solve_cycle.proofs.minimal.settle_row.Statement.{statement}
 use Rattle.solve_cycle.proofs.minimal.settle_row.Tie as tie
 
 abbrev Inv-loop : tie.InvT-loop
-Inv-loop parent n low₀ high₀ l left₀ low high left =
-    Long low high × ((g : Graph) → Thinned g n parent low₀ high₀ (before l) → Thinned g n parent low high (rowSettled l left))
+Inv-loop parent owner trees low₀ high₀ l left₀ low high left =
+    Long low high × ((g : Graph) → Thinned g (trees .n) parent low₀ high₀ (before l) → Thinned g (trees .n) parent low high (rowSettled l left))
 
 abbrev μ-loop : tie.MeasureT-loop
-μ-loop parent n low₀ high₀ l left₀ low high left = count 128 (mem left)
+μ-loop parent owner trees low₀ high₀ l left₀ low high left = count 128 (mem left)
 
 set-at-requires : tie.Need-set-at-requires Inv-loop μ-loop
 set-at-requires c κs = search needs
 
 loop-holds : tie.Need-loop-holds Inv-loop μ-loop
 loop-holds c =
-    let a = c .before .before .before .before .before .before .args in
-    (c .before .before .before .before .before .before .pre .1, λ g t. row-start g (a .n) (now (a .parent)) (now (a .low)) (now (a .high)) (a .l) (c .set-at .result) (c .set-at .ensures) t)
+    let a = c .before .before .before .before .before .before .before .args in
+    (c .before .before .before .before .before .before .before .pre .1, λ g t. row-start g (a .trees .n) (now (a .parent)) (now (a .low)) (now (a .high)) (a .l) (c .set-at .result) (c .set-at .ensures) t)
 
 pop-requires : tie.Need-pop-requires Inv-loop μ-loop
 pop-requires c κs = search needs
@@ -37,16 +37,16 @@ enum-told : tie.Need-enum-told Inv-loop μ-loop
 enum-told c = search needs
 
 same-length : tie.Need-same-length Inv-loop μ-loop
-same-length c = c .before .before .before .loop .inv .0 .0 ∙ sym (c .before .before .before .before .before .before .before .before .before .before .pre .1 .0)
+same-length c = c .before .before .before .loop .inv .0 .0 ∙ sym (c .before .before .before .before .before .before .before .before .before .before .before .pre .1 .0)
 
 same-length-2 : tie.Need-same-length-2 Inv-loop μ-loop
-same-length-2 c = c .before .before .before .loop .inv .0 .1 ∙ sym (c .before .before .before .before .before .before .before .before .before .before .pre .1 .1)
+same-length-2 c = c .before .before .before .loop .inv .0 .1 ∙ sym (c .before .before .before .before .before .before .before .before .before .before .before .pre .1 .1)
 
 returns : tie.Need-returns Inv-loop μ-loop
-returns c = λ g t. row-end g _ _ (c .before .before .before .loop .low) (c .before .before .before .loop .high) (c .before .before .before .before .before .before .before .before .before .before .args .l) (c .before .before .before .loop .left) (c .before .before .pop .ensures .empty (c .enum-told .given .1)) (c .before .before .before .loop .inv .1 g t)
+returns c = λ g t. row-end g _ _ (c .before .before .before .loop .low) (c .before .before .before .loop .high) (c .before .before .before .before .before .before .before .before .before .before .before .args .l) (c .before .before .before .loop .left) (c .before .before .pop .ensures .empty (c .enum-told .given .1)) (c .before .before .before .loop .inv .1 g t)
 
 settle-requires : tie.Need-settle-requires Inv-loop μ-loop
-settle-requires c κs = (c .before .before .before .before .before .before .before .before .before .before .before .before .before .pre .0, c .before .before .before .before .before .before .loop .inv .0, c .before .before .before .before .before .before .before .before .before .before .before .before .before .pre .2, c .before .before .before .before .before .pop .ensures .lowest _ _ (c .before .before .before .r .given .1) .below)
+settle-requires c κs = (c .before .before .before .before .before .before .before .before .before .before .before .before .before .before .pre .0, c .before .before .before .before .before .before .loop .inv .0, c .before .before .before .before .before .before .before .before .before .before .before .before .before .before .pre .2, c .before .before .before .before .before .pop .ensures .lowest _ _ (c .before .before .before .r .given .1) .below)
 
 loop-less : tie.Need-loop-less Inv-loop μ-loop
 loop-less c =
@@ -55,12 +55,12 @@ loop-less c =
 
 loop-again : tie.Need-loop-again Inv-loop μ-loop
 loop-again c =
-    let a = c .before .before .before .before .before .before .before .before .before .before .before .before .before .before .before .before .before .before .args in
+    let a = c .before .before .before .before .before .before .before .before .before .before .before .before .before .before .before .before .before .before .before .args in
     let l = c .before .before .before .before .before .before .before .before .before .before .before .loop in
     let k = c .before .before .before .before .settle in (
-      (k .kept .1 .1 .0 ∙ l .inv .0 .0, k .kept .1 .1 .1 .0 ∙ l .inv .0 .1),
+      (k .kept .1 .1 .1 .0 ∙ l .inv .0 .0, k .kept .1 .1 .1 .1 .0 ∙ l .inv .0 .1),
       λ g t.
-          row-more g (a .n) (now (a .parent)) (k .last .1 .1 .0) (k .last .1 .1 .1 .0) (a .l) (l .left) _ _ (c .before .before .before .before .before .before .before .before .before .before .pop .ensures .lowest _ _ (c .before .before .before .before .before .before .before .before .r .given .1) .others)
+          row-more g (a .trees .n) (now (a .parent)) (k .last .1 .1 .1 .0) (k .last .1 .1 .1 .1 .0) (a .l) (l .left) _ _ (c .before .before .before .before .before .before .before .before .before .before .pop .ensures .lowest _ _ (c .before .before .before .before .before .before .before .before .r .given .1) .others)
           (k .ensures g (rowSettled (a .l) (l .left)) (l .inv .1 g t)),
     )
 

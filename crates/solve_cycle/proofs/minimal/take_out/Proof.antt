@@ -21,10 +21,7 @@ same-length-2 c = search needs
 
 returns : tie.Need-returns
 returns c =
-    let p = c .before .before .before .before in
-    let w = p .before .before .before in
-    let s = w .before in
-    row-out _ _ (s .set-at .result) (s .set-at .ensures) (w .without .ensures) (p .put-at .ensures)
+    row-out _ _ (c .before .before .before .before .before .before .before .before .set-at .result) (c .before .before .before .before .before .before .before .before .set-at .ensures) (c .before .before .before .before .before .before .before .without .ensures) (c .before .before .before .before .put-at .ensures)
 
 pub take-out-spec : {M : Type 1} → statement M
 take-out-spec =

@@ -1,89 +1,62 @@
--- A node that is not joined to the one at `from`, or was found before, changes nothing.
-use Prim.Native.Nat.{ℕ, _≤_, _<_}
+-- A node that is not near the one at `from`, or was found before, changes nothing.
+use Prim.Native.Nat.{_≤_, _<_}
 use mathlib.Core.Path.{_≡_}
-use mathlib.Core.Bool.{Bool}
 use denote.Ref.{now}
 use native.Mathlib.Omega.{arith}
 use lib.ListN.{getD}
 use Rattle.graph.specs.Graph.{none}
-use Rattle.solve_cycle.specs.Searching.{joinedIn}
+use Rattle.base_tables.specs.Sets.{inRow}
 use Rattle.solve_cycle.proofs.Searches.{few-found, room, reached-before, reached-not, reached-new}
 use borrow.Author.Needs.{needs}
 use Rattle.solve_cycle.proofs.search.reach.Statement.{statement}
 use Rattle.solve_cycle.proofs.search.reach.Tie as tie
 
-abbrev joins : tie.Start → ℕ → ℕ → Bool
-joins s = joinedIn (now (s .args .parent)) (now (s .args .low)) (now (s .args .high))
-
-few : (s : tie.Start) → s .args .found ≤ s .args .n
-few s = few-found (s .args .n) (joins s) (now (s .args .queue)) (now (s .args .came)) (now (s .args .place)) (s .args .found) (s .pre .1)
+few : (s : tie.Start) → s .args .turn .found ≤ s .args .turn .n
+few s = few-found _ (inRow (now (s .args .near))) _ _ _ _ (s .pre .1)
 
 -- an unseen node has a free place
-free : (s : tie.Start) → getD (now (s .args .place)) (s .args .v) 0 ≡ none → s .args .found < s .args .n
-free s u = room (s .args .n) (joins s) (now (s .args .queue)) (now (s .args .came)) (now (s .args .place)) (s .args .found) (s .pre .1) (s .pre .0 .2) (s .args .from) (s .args .v) (s .pre .0 .3) (s .pre .0 .4) u
+free : (s : tie.Start) → getD (now (s .args .place)) (s .args .v) 0 ≡ none → s .args .turn .found < s .args .turn .n
+free s u = room _ (inRow (now (s .args .near))) _ _ _ _ (s .pre .1) (s .pre .0 .1) (s .args .turn .from) (s .args .v) (s .pre .0 .2) (s .pre .0 .3) u
 
 slice-read-if1 : tie.Need-slice-read-if1
-slice-read-if1 c =
-    let s = c .before .before .before .before .before .before .before in
-    omega (arith, s .pre .1 .place-long, s .pre .0 .2, s .pre .0 .4)
+slice-read-if1 c = omega (arith, c .before .before .before .before .before .pre .1 .place-long, c .before .before .before .before .before .pre .0 .1, c .before .before .before .before .before .pre .0 .3)
 
 returns : tie.Need-returns
-returns c =
-    let s = c .before .before .before .before .before .before .before .before in
-    reached-before (s .args .n) (joins s) (now (s .args .queue)) (now (s .args .came)) (now (s .args .place)) (s .args .found) (s .pre .1) _ (s .args .v) (c .if1 .taken)
+returns c = reached-before _ (inRow (now (c .before .before .before .before .before .before .args .near))) _ _ _ _ (c .before .before .before .before .before .before .pre .1) _ (c .before .before .before .before .before .before .args .v) (c .if1 .taken)
 
-slice-read-joined : tie.Need-slice-read-joined
-slice-read-joined c =
-    let s = c .before .before .before .before .before .before .before .before .before in
-    omega (arith, s .pre .1 .queue-long, s .pre .0 .2, s .pre .0 .3, few s)
+slice-read-in-row : tie.Need-slice-read-in-row
+slice-read-in-row c = omega (arith, c .before .before .before .before .before .before .before .pre .1 .queue-long, c .before .before .before .before .before .before .before .pre .0 .1, c .before .before .before .before .before .before .before .pre .0 .2, few (c .before .before .before .before .before .before .before))
 
-cast-joined : tie.Need-cast-joined
-cast-joined c = omega (arith, c .slice-known5 .given (c .before .before .before .before .before .before .before .before .before .args .from))
+cast-in-row : tie.Need-cast-in-row
+cast-in-row c = omega (arith, c .slice-known5 .given (c .before .before .before .before .before .before .before .args .turn .from))
 
-joined-requires : tie.Need-joined-requires
-joined-requires c κs =
-    let s = c .before .before .before .before .before .before .before .before .before in
-    (s .pre .0 .0, s .pre .0 .1, omega (arith, s .pre .1 .node-at (s .args .from) (s .pre .0 .3) .0, s .pre .0 .2), omega (arith, s .pre .0 .2, s .pre .0 .4))
+in-row-requires : tie.Need-in-row-requires
+in-row-requires c κs =
+    (c .before .before .before .before .before .before .before .pre .0 .0, omega (arith, c .before .before .before .before .before .before .before .pre .1 .node-at (c .before .before .before .before .before .before .before .args .turn .from) (c .before .before .before .before .before .before .before .pre .0 .2) .0, c .before .before .before .before .before .before .before .pre .0 .1), omega (arith, c .before .before .before .before .before .before .before .pre .0 .1, c .before .before .before .before .before .before .before .pre .0 .3))
 
 returns-2 : tie.Need-returns-2
-returns-2 c =
-    let s = c .before .before .before .before .before .before .before .before .before .before .before in
-    reached-not (s .args .n) (joins s) (now (s .args .queue)) (now (s .args .came)) (now (s .args .place)) (s .args .found) (s .pre .1) _ (s .args .v) (c .before .joined .result) (c .before .joined .ensures) (c .if2 .taken)
+returns-2 c = reached-not _ (inRow (now (c .before .before .before .before .before .before .before .before .before .args .near))) _ _ _ _ (c .before .before .before .before .before .before .before .before .before .pre .1) _ (c .before .before .before .before .before .before .before .before .before .args .v) (c .before .in-row .result) (c .before .in-row .ensures) (c .if2 .taken)
 
 cast-queue : tie.Need-cast-queue
-cast-queue c =
-    let s = c .before .before .before .before .before .before .before .before .before .before .before in
-    omega (arith, s .pre .0 .2, s .pre .0 .4)
+cast-queue c = omega (arith, c .before .before .before .before .before .before .before .before .before .pre .0 .1, c .before .before .before .before .before .before .before .before .before .pre .0 .3)
 
 slice-write-queue : tie.Need-slice-write-queue
-slice-write-queue c =
-    let s = c .before .before .before .before .before .before .before .before .before .before .before in
-    omega (arith, s .pre .1 .queue-long, s .pre .0 .2, free s (c .before .before .before .if1 .left))
+slice-write-queue c = omega (arith, c .before .before .before .before .before .before .before .before .before .pre .1 .queue-long, c .before .before .before .before .before .before .before .before .before .pre .0 .1, free (c .before .before .before .before .before .before .before .before .before) (c .before .before .before .if1 .left))
 
 cast-came : tie.Need-cast-came
-cast-came c =
-    let s = c .before .before .before .before .before .before .before .before .before .before .before in
-    omega (arith, s .pre .0 .2, s .pre .0 .3, few s)
+cast-came c = omega (arith, c .before .before .before .before .before .before .before .before .before .pre .0 .1, c .before .before .before .before .before .before .before .before .before .pre .0 .2, few (c .before .before .before .before .before .before .before .before .before))
 
 slice-write-came : tie.Need-slice-write-came
-slice-write-came c =
-    let s = c .before .before .before .before .before .before .before .before .before .before .before in
-    omega (arith, s .pre .1 .came-long, s .pre .0 .2, free s (c .before .before .before .if1 .left))
+slice-write-came c = omega (arith, c .before .before .before .before .before .before .before .before .before .pre .1 .came-long, c .before .before .before .before .before .before .before .before .before .pre .0 .1, free (c .before .before .before .before .before .before .before .before .before) (c .before .before .before .if1 .left))
 
 cast-place : tie.Need-cast-place
-cast-place c =
-    let s = c .before .before .before .before .before .before .before .before .before .before .before in
-    omega (arith, s .pre .0 .2, few s)
+cast-place c = omega (arith, c .before .before .before .before .before .before .before .before .before .pre .0 .1, few (c .before .before .before .before .before .before .before .before .before))
 
 slice-write-place : tie.Need-slice-write-place
-slice-write-place c =
-    let s = c .before .before .before .before .before .before .before .before .before .before .before in
-    omega (arith, s .pre .1 .place-long, s .pre .0 .2, s .pre .0 .4)
+slice-write-place c = omega (arith, c .before .before .before .before .before .before .before .before .before .pre .1 .place-long, c .before .before .before .before .before .before .before .before .before .pre .0 .1, c .before .before .before .before .before .before .before .before .before .pre .0 .3)
 
 add-result : tie.Need-add-result
-add-result c =
-    let s = c .before .before .before .before .before .before .before .before .before .before .before in
-    omega (arith, s .pre .0 .2, few s)
+add-result c = omega (arith, c .before .before .before .before .before .before .before .before .before .pre .0 .1, few (c .before .before .before .before .before .before .before .before .before))
 
 same-length : tie.Need-same-length
 same-length c = search needs
@@ -96,8 +69,7 @@ same-length-3 c = search needs
 
 returns-3 : tie.Need-returns-3
 returns-3 c =
-    let s = c .before .before .before .before .before .before .before .before .before .before .before in
-    reached-new (s .args .n) (joins s) (now (s .args .queue)) (now (s .args .came)) (now (s .args .place)) (s .args .found) (s .pre .1) (s .pre .0 .2) (s .args .from) (s .args .v) (s .pre .0 .3) (s .pre .0 .4) (c .before .before .before .if1 .left) (c .before .joined .result) (c .before .joined .ensures) (c .if2 .left)
+    reached-new _ (inRow (now (c .before .before .before .before .before .before .before .before .before .args .near))) _ _ _ _ (c .before .before .before .before .before .before .before .before .before .pre .1) (c .before .before .before .before .before .before .before .before .before .pre .0 .1) (c .before .before .before .before .before .before .before .before .before .args .turn .from) (c .before .before .before .before .before .before .before .before .before .args .v) (c .before .before .before .before .before .before .before .before .before .pre .0 .2) (c .before .before .before .before .before .before .before .before .before .pre .0 .3) (c .before .before .before .if1 .left) (c .before .in-row .result) (c .before .in-row .ensures) (c .if2 .left)
 
 pub reach-spec : {M : Type 1} → statement M
 reach-spec =
@@ -105,9 +77,9 @@ reach-spec =
     (tie.spec
     slice-read-if1
     returns
-    slice-read-joined
-    cast-joined
-    joined-requires
+    slice-read-in-row
+    cast-in-row
+    in-row-requires
     returns-2
     cast-queue
     slice-write-queue

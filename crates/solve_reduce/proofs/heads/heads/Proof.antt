@@ -16,7 +16,7 @@ tops-requires : tie.Need-tops-requires
 tops-requires c κs = search needs
 
 returns : tie.Need-returns
-returns c = heads-row (c .before .before .before .before .before .args .roots) _ _ (c .before .before .before .before .before .args .l) (c .before .before .set-at .result) (c .before .intersection .result) (c .tops .result) (small-set (c .before .before .before .before .before .args .roots) (omega (arith, c .before .before .before .before .before .good))) (c .before .before .set-at .ensures) (c .before .intersection .ensures) (c .tops .ensures)
+returns c = heads-row (c .before .before .before .before .args .roots) _ (c .before .before .before .before .args .l) (c .before .before .set-at .result) (c .before .intersection .result) (c .tops .result) (small-set (c .before .before .before .before .args .roots) (omega (arith, c .before .before .before .before .good))) (c .before .before .set-at .ensures) (c .before .intersection .ensures) (c .tops .ensures)
 
 pub heads-spec : {M : Type 1} → statement M
 heads-spec =

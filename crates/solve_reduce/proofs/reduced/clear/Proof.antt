@@ -7,13 +7,13 @@ use Rattle.solve_reduce.proofs.reduced.clear.Statement.{statement}
 use Rattle.solve_reduce.proofs.reduced.clear.Tie as tie
 
 abbrev Inv-loop : tie.InvT-loop
-Inv-loop low₀ high₀ n v₀ low high v = (v ≤ n) × BlankSo n low₀ high₀ v low high
+Inv-loop sets₀ n v₀ sets v = (v ≤ n) × BlankSo n sets₀ v sets
 
 abbrev μ-loop : tie.MeasureT-loop
-μ-loop low₀ high₀ n v₀ low high v = n - v
+μ-loop sets₀ n v₀ sets v = n - v
 
 loop-holds : tie.Need-loop-holds Inv-loop μ-loop
-loop-holds c = (omega arith, blank-start _ _ _ (c .before .before .pre .0))
+loop-holds c = (omega arith, blank-start _ _ (c .before .pre .0))
 
 add-put-at : tie.Need-add-put-at Inv-loop μ-loop
 add-put-at c = search needs
@@ -23,8 +23,7 @@ empty-requires c κs = search needs
 
 put-at-requires : tie.Need-put-at-requires Inv-loop μ-loop
 put-at-requires c κs =
-    let w = c .before .before .before .before .loop .inv .1 .wide in
-    (omega (arith, w .0), omega (arith, w .1))
+    omega (arith, c .before .before .before .loop .inv .1 .wide)
 
 add-v : tie.Need-add-v Inv-loop μ-loop
 add-v c = search needs
@@ -34,19 +33,16 @@ loop-less c = search needs
 
 loop-again : tie.Need-loop-again Inv-loop μ-loop
 loop-again c =
-    let l = c .before .before .before .before .before .before .before .before .before .loop in
-    (omega arith, blank-more (c .before .before .before .before .before .before .before .before .before .before .before .before .args .n) _ _ (l .v) (l .low) (l .high) _ _ (c .before .before .before .before .before .empty .result) (c .before .before .before .before .before .empty .ensures) (c .before .before .before .before .put-at .ensures) (l .inv .1))
+    let l = c .before .before .before .before .before .before .loop in
+    (omega arith, blank-more (c .before .before .before .before .before .before .before .before .args .n) _ (l .v) (l .sets) _ (c .before .before .before .empty .result) (c .before .before .before .empty .ensures) (c .before .before .put-at .ensures) (l .inv .1))
 
 same-length : tie.Need-same-length Inv-loop μ-loop
 same-length c = search needs
 
-same-length-2 : tie.Need-same-length-2 Inv-loop μ-loop
-same-length-2 c = search needs
-
 returns : tie.Need-returns Inv-loop μ-loop
 returns c =
     let l = c .before .loop in
-    blank-end (c .before .before .before .before .args .n) _ _ (l .v) (l .low) (l .high) (omega arith) (l .inv .1)
+    blank-end (c .before .before .before .args .n) _ (l .v) (l .sets) (omega arith) (l .inv .1)
 
 pub clear-spec : {M : Type 1} → statement M
 clear-spec =
@@ -62,5 +58,4 @@ clear-spec =
     loop-less
     loop-again
     same-length
-    same-length-2
     returns)

@@ -11,33 +11,27 @@ use Rattle.solve_reduce.proofs.reduced.reduce.Statement.{statement}
 use Rattle.solve_reduce.proofs.reduced.reduce.Tie as tie
 
 abbrev Inv-loop : tie.InvT-loop
-Inv-loop base-low base-high n roots low₀ high₀ forks₀ left₀ low high forks left = EnteredSo n left₀ roots base-low base-high left low high × Forks n low high forks
+Inv-loop rows trees sets₀ n forks₀ left₀ sets forks left = EnteredSo n left₀ (trees .roots) rows left sets × Forks n sets forks
 
 abbrev μ-loop : tie.MeasureT-loop
-μ-loop base-low base-high n roots low₀ high₀ forks₀ left₀ low high forks left = count 128 (mem left)
+μ-loop rows trees sets₀ n forks₀ left₀ sets forks left = count 128 (mem left)
+
+mul-copy-first : tie.Need-mul-copy-first Inv-loop μ-loop
+mul-copy-first c = search needs
 
 copy-first-requires : tie.Need-copy-first-requires Inv-loop μ-loop
-copy-first-requires c κs =
-    let p = c .before .before .before .before .before .pre in
-    (omega (arith, p .0 .0, p .2), omega (arith, p .1 .0, p .2))
-
-copy-first-requires-2 : tie.Need-copy-first-requires-2 Inv-loop μ-loop
-copy-first-requires-2 c κs =
-    let p = c .before .before .before .before .before .before .before .before .before .pre in
-    (omega (arith, p .0 .1, p .2), omega (arith, p .1 .1, p .2))
+copy-first-requires c κs = (omega (arith, c .before .before .before .pre .0, c .before .before .before .pre .1 .few), omega (arith, c .before .before .before .pre .2, c .before .before .before .pre .1 .few))
 
 clear-requires : tie.Need-clear-requires Inv-loop μ-loop
-clear-requires c κs =
-    let p = c .before .before .before .before .before .before .before .before .before .before .before .before .before .before .pre in
-    ((omega (arith, p .1 .0, c .before .before .before .before .before .before .before .before .copy-first .kept), omega (arith, p .1 .1, c .before .before .before .before .copy-first2 .kept)), p .2)
+clear-requires c κs = (omega (arith, c .before .before .before .before .before .before .before .pre .2, c .before .before .before .copy-first .kept), c .before .before .before .before .before .before .before .pre .1 .few)
 
 empty-requires : tie.Need-empty-requires Inv-loop μ-loop
 empty-requires c κs = search needs
 
 loop-holds : tie.Need-loop-holds Inv-loop μ-loop
 loop-holds c =
-    let a = c .before .before .before .before .before .before .before .before .before .before .before .before .before .before .before .before .before .before .before .before .args in
-    (enter-start (a .n) (a .leaves) (a .roots) (now (a .base-low)) (now (a .base-high)) (now (a .low)) (now (a .high)) (c .before .before .before .before .before .before .before .before .before .before .before .before .before .before .copy-first .last .1 .0) (c .before .before .before .before .before .before .before .before .before .before .copy-first2 .last .1 .0) _ _ (c .before .before .before .before .before .before .before .before .before .before .before .before .before .before .copy-first .ensures) (c .before .before .before .before .before .before .before .before .before .before .copy-first2 .ensures) (c .before .before .before .before .before .clear .ensures), forks-none (a .n) _ _ _ _ (c .empty .result) (c .empty .ensures) (c .before .before .before .before .before .clear .ensures))
+    let a = c .before .before .before .before .before .before .before .before .before .before .before .before .args in
+    (enter-start (a .trees .n) (a .trees .leaves) (a .trees .roots) (now (a .rows)) (now (a .sets)) (c .before .before .before .before .before .before .before .before .copy-first .last .1 .0) _ (c .before .before .before .before .before .before .before .before .copy-first .ensures) (c .before .before .before .before .clear .ensures), forks-none (a .trees .n) _ _ (c .before .empty .result) (c .before .empty .ensures) (c .before .before .before .before .clear .ensures))
 
 pop-requires : tie.Need-pop-requires Inv-loop μ-loop
 pop-requires c κs = search needs
@@ -49,46 +43,42 @@ enum-told : tie.Need-enum-told Inv-loop μ-loop
 enum-told c = search needs
 
 heads-requires : tie.Need-heads-requires Inv-loop μ-loop
-heads-requires c κs = (c .before .before .before .before .before .before .before .before .before .before .before .before .before .before .before .before .before .before .before .before .before .before .before .before .before .pre .0, c .before .before .before .pop .ensures .lowest _ _ (c .before .l .given .1) .below)
+heads-requires c κs = (c .before .before .before .before .before .before .before .before .before .before .before .before .before .before .before .before .before .pre .0, c .before .before .before .pop .ensures .lowest _ _ (c .before .l .given .1) .below)
 
 empty-requires-2 : tie.Need-empty-requires-2 Inv-loop μ-loop
 empty-requires-2 c κs = search needs
 
 only-requires : tie.Need-only-requires Inv-loop μ-loop
-only-requires c κs = c .before .before .before .before .before .before .before .pop .ensures .lowest _ _ (c .before .before .before .before .before .l .given .1) .below
+only-requires c κs = c .before .before .before .before .before .before .pop .ensures .lowest _ _ (c .before .before .before .before .l .given .1) .below
 
 revise-requires : tie.Need-revise-requires Inv-loop μ-loop
-revise-requires c κs = (c .before .before .before .before .before .before .before .before .before .loop .inv .0 .wide, c .before .before .before .before .before .before .before .before .before .before .before .before .before .before .before .before .before .before .before .before .before .before .before .before .before .before .before .before .before .before .pre .2, λ v m. c .before .before .before .before .before .before .before .before .before .before .before .before .before .before .before .before .before .before .before .before .before .before .before .before .before .before .before .before .before .before .pre .3 v (c .before .before .before .before .heads .ensures .of-roots v m))
+revise-requires c κs = (c .before .before .before .before .before .before .before .before .loop .inv .0 .wide, c .before .before .before .before .before .before .before .before .before .before .before .before .before .before .before .before .before .before .before .before .before .pre .1 .few, λ v m. c .before .before .before .before .before .before .before .before .before .before .before .before .before .before .before .before .before .before .before .before .before .pre .1 .roots-within v (c .before .before .before .heads .ensures .of-roots v m))
 
 loop-less : tie.Need-loop-less Inv-loop μ-loop
-loop-less c = omega (arith, c .before .before .before .before .before .before .before .before .before .before .before .before .before .pop .ensures .lowest _ _ (c .before .before .before .before .before .before .before .before .before .before .before .l .given .1) .one-less)
+loop-less c = omega (arith, c .before .before .before .before .before .before .before .before .before .before .pop .ensures .lowest _ _ (c .before .before .before .before .before .before .before .before .l .given .1) .one-less)
 
 loop-again : tie.Need-loop-again Inv-loop μ-loop
 loop-again c =
-    let a = c .before .before .before .before .before .before .before .before .before .before .before .before .before .before .before .before .before .before .before .before .before .before .before .before .before .before .before .before .before .before .before .before .before .before .before .args in
-    let l = c .before .before .before .before .before .before .before .before .before .before .before .before .before .before .loop in
-    (enter-more (a .n) (a .leaves) (a .roots) (now (a .base-low)) (now (a .base-high)) _ (l .low) (l .high) _ _ _ (c .before .before .before .before .before .before .before .before .before .heads .result) (c .before .before .before .before .before .before .empty2 .result) (c .before .before .before .before .before .only .result) _ (c .before .before .before .before .before .before .before .before .before .before .before .before .before .pop .ensures .lowest _ _ (c .before .before .before .before .before .before .before .before .before .before .before .l .given .1)) (c .before .before .before .before .before .before .before .before .before .heads .ensures) (c .before .before .before .before .before .before .empty2 .ensures) (c .before .before .before .before .before .only .ensures) (c .before .before .before .before .revise .ensures .0) (l .inv .0), c .before .before .before .before .revise .ensures .1 (l .inv .1))
+    let a = c .before .before .before .before .before .before .before .before .before .before .before .before .before .before .before .before .before .before .before .before .before .before .before .before .args in
+    let l = c .before .before .before .before .before .before .before .before .before .before .before .loop in
+    (enter-more (a .trees .n) (a .trees .leaves) (a .trees .roots) (now (a .rows)) _ (l .sets) _ _ (c .before .before .before .before .before .before .heads .result) (c .before .before .before .before .empty2 .result) (c .before .before .before .only .result) _ (c .before .before .before .before .before .before .before .before .before .before .pop .ensures .lowest _ _ (c .before .before .before .before .before .before .before .before .l .given .1)) (c .before .before .before .before .before .before .heads .ensures) (c .before .before .before .before .empty2 .ensures) (c .before .before .before .only .ensures) (c .before .before .revise .ensures .0) (l .inv .0), c .before .before .revise .ensures .1 (l .inv .1))
 
 add-put-at : tie.Need-add-put-at Inv-loop μ-loop
-add-put-at c = omega (arith, c .before .before .before .before .before .before .before .before .before .before .before .before .before .before .before .before .before .before .before .before .before .before .before .before .before .before .pre .2)
+add-put-at c = omega (arith, c .before .before .before .before .before .before .before .before .before .before .before .before .before .before .before .before .before .pre .1 .few)
 
 put-at-requires : tie.Need-put-at-requires Inv-loop μ-loop
 put-at-requires c κs =
-    let w = c .before .before .before .before .before .loop .inv .0 .wide in
-    (omega (arith, w .0, c .before .before .before .before .before .before .before .before .before .before .before .before .before .before .before .before .before .before .before .before .before .before .before .before .before .before .pre .2), omega (arith, w .1, c .before .before .before .before .before .before .before .before .before .before .before .before .before .before .before .before .before .before .before .before .before .before .before .before .before .before .pre .2))
+    omega (arith, c .before .before .before .before .loop .inv .0 .wide, c .before .before .before .before .before .before .before .before .before .before .before .before .before .before .before .before .before .pre .1 .few)
 
 same-length : tie.Need-same-length Inv-loop μ-loop
-same-length c = c .before .before .before .before .put-at .ensures .low-long ∙ c .before .before .before .before .before .before .before .before .before .before .loop .inv .0 .wide .0 ∙ sym (c .before .before .before .before .before .before .before .before .before .before .before .before .before .before .before .before .before .before .before .before .before .before .before .before .before .before .before .before .before .before .before .pre .1 .0)
-
-same-length-2 : tie.Need-same-length-2 Inv-loop μ-loop
-same-length-2 c = c .before .before .before .before .put-at .ensures .high-long ∙ c .before .before .before .before .before .before .before .before .before .before .loop .inv .0 .wide .1 ∙ sym (c .before .before .before .before .before .before .before .before .before .before .before .before .before .before .before .before .before .before .before .before .before .before .before .before .before .before .before .before .before .before .before .pre .1 .1)
+same-length c = c .before .before .put-at .ensures .long ∙ c .before .before .before .before .before .before .before .loop .inv .0 .wide ∙ sym (c .before .before .before .before .before .before .before .before .before .before .before .before .before .before .before .before .before .before .before .before .pre .2)
 
 returns : tie.Need-returns Inv-loop μ-loop
 returns c =
-    let a = c .before .before .before .before .before .before .before .before .before .before .before .before .before .before .before .before .before .before .before .before .before .before .before .before .before .before .before .before .before .before .before .args in
-    let l = c .before .before .before .before .before .before .before .before .before .before .loop in
+    let a = c .before .before .before .before .before .before .before .before .before .before .before .before .before .before .before .before .before .before .before .before .args in
+    let l = c .before .before .before .before .before .before .before .loop in
     λ g s ends rows.
-    marked g (enter-end (a .n) (a .leaves) (a .roots) (now (a .base-low)) (now (a .base-high)) (l .left) (l .low) (l .high) (c .before .before .before .before .before .before .before .before .before .pop .ensures .empty (c .before .before .before .before .before .before .before .enum-told .given .1)) (l .inv .0) g s ends rows) (l .inv .1) (c .before .before .before .before .put-at .ensures)
+    marked g (enter-end (a .trees) (now (a .rows)) (l .left) (l .sets) (c .before .before .before .before .before .before .pop .ensures .empty (c .before .before .before .before .enum-told .given .1)) (l .inv .0) g s ends rows) (l .inv .1) (c .before .before .put-at .ensures)
 
 pub reduce-spec : {M : Type 1} → statement M
 reduce-spec =
@@ -96,8 +86,8 @@ reduce-spec =
     (tie.spec
     Inv-loop
     μ-loop
+    mul-copy-first
     copy-first-requires
-    copy-first-requires-2
     clear-requires
     empty-requires
     loop-holds
@@ -113,5 +103,4 @@ reduce-spec =
     add-put-at
     put-at-requires
     same-length
-    same-length-2
     returns)

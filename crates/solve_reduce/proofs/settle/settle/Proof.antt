@@ -11,15 +11,15 @@ use Rattle.solve_reduce.proofs.settle.settle.Statement.{statement}
 use Rattle.solve_reduce.proofs.settle.settle.Tie as tie
 
 abbrev Inv-loop : tie.InvT-loop
-Inv-loop low high n out₀ v₀ out v = (v ≤ n) × (length out ≡ length out₀) × Filled (lowest n low high) v out₀ out
+Inv-loop sets n out₀ v₀ out v = (v ≤ n) × (length out ≡ length out₀) × Filled (lowest n sets) v out₀ out
 
 abbrev μ-loop : tie.MeasureT-loop
-μ-loop low high n out₀ v₀ out v = n - v
+μ-loop sets n out₀ v₀ out v = n - v
 
 loop-holds : tie.Need-loop-holds Inv-loop μ-loop
 loop-holds c =
-    let a = c .before .before .before .args in
-    (omega arith, refl, filled-none (lowest (a .n) (now (a .low)) (now (a .high))) (now (a .out)))
+    let a = c .before .before .args in
+    (omega arith, refl, filled-none (lowest (a .n) (now (a .sets))) (now (a .out)))
 
 add-set-at : tie.Need-add-set-at Inv-loop μ-loop
 add-set-at c = search needs
@@ -44,20 +44,20 @@ loop-less c = search needs
 
 loop-again : tie.Need-loop-again Inv-loop μ-loop
 loop-again c =
-    let a = c .before .before .before .before .before .before .before .before .args in
+    let a = c .before .before .before .before .before .before .before .args in
     let l = c .before .before .before .before .loop in
-    (omega arith, simp length-set (l .inv .1), filled-more (lowest (a .n) (now (a .low)) (now (a .high))) (l .v) (now (a .out)) (l .out) (c .byte .result) (omega (arith, l .inv .1)) (lowest-is (a .n) (now (a .low)) (now (a .high)) (l .v) (c .before .before .set-at .result) (c .before .before .set-at .ensures) (c .before .lowest .result) (c .before .lowest .ensures) (c .byte .result) (c .byte .ensures)) (l .inv .2))
+    (omega arith, simp length-set (l .inv .1), filled-more (lowest (a .n) (now (a .sets))) (l .v) (now (a .out)) (l .out) (c .byte .result) (omega (arith, l .inv .1)) (lowest-is (a .n) (now (a .sets)) (l .v) (c .before .before .set-at .result) (c .before .before .set-at .ensures) (c .before .lowest .result) (c .before .lowest .ensures) (c .byte .result) (c .byte .ensures)) (l .inv .2))
 
 same-length : tie.Need-same-length Inv-loop μ-loop
 same-length c = c .before .loop .inv .1
 
 returns : tie.Need-returns Inv-loop μ-loop
 returns c =
-    let a = c .before .before .before .before .before .args in
+    let a = c .before .before .before .before .args in
     let l = c .before .loop in
     let all : l .v ≡ a .n = omega arith in
-    let so : Filled (lowest (a .n) (now (a .low)) (now (a .high))) (a .n) (now (a .out)) (l .out) = λ k. l .inv .2 k ∙ rw all in
-    (rest-same (lowest (a .n) (now (a .low)) (now (a .high))) (a .n) (now (a .out)) (l .out) (l .inv .1) so, λ g is. settles g (a .n) (now (a .low)) (now (a .high)) is (now (a .out)) (l .out) (omega (arith, l .inv .1)) so)
+    let so : Filled (lowest (a .n) (now (a .sets))) (a .n) (now (a .out)) (l .out) = λ k. l .inv .2 k ∙ rw all in
+    (rest-same (lowest (a .n) (now (a .sets))) (a .n) (now (a .out)) (l .out) (l .inv .1) so, λ g is. settles g (a .n) (now (a .sets)) is (now (a .out)) (l .out) (omega (arith, l .inv .1)) so)
 
 pub settle-spec : {M : Type 1} → statement M
 settle-spec =

@@ -5,7 +5,8 @@ use Rattle.base_finite.proofs.Laws.{any-found}
 use Rattle.base_finite.specs.Below.{count}
 use Rattle.base_nodeset.specs.Set.{mem}
 use Rattle.base_nodeset.proofs.Members.{some-member, no-member}
-use Rattle.base_tables.specs.Rows.{inRow, Closed}
+use Rattle.base_tables.specs.Rows.{Closed}
+use Rattle.base_tables.specs.Sets.{inRow}
 use Rattle.solve_test.specs.Free.{Taking, none-taken}
 use Rattle.solve_test.proofs.Rounds.{taking-trans}
 use borrow.Author.Needs.{needs}
@@ -13,10 +14,10 @@ use Rattle.solve_test.proofs.free.eliminate.Statement.{statement}
 use Rattle.solve_test.proofs.free.eliminate.Tie as tie
 
 abbrev Inv-loop : tie.InvT-loop
-Inv-loop low high near-low near-high leaf-low leaf-high rem₀ rem = Closed (inRow low high) → Taking (inRow low high) (inRow near-low near-high) (inRow leaf-low leaf-high) rem₀ rem
+Inv-loop rows near leaf rem₀ rem = Closed (inRow rows) → Taking (inRow rows) (inRow near) (inRow leaf) rem₀ rem
 
 abbrev μ-loop : tie.MeasureT-loop
-μ-loop low high near-low near-high leaf-low leaf-high rem₀ rem = count 128 (mem rem)
+μ-loop rows near leaf rem₀ rem = count 128 (mem rem)
 
 loop-holds : tie.Need-loop-holds Inv-loop μ-loop
 loop-holds c = λ closed. none-taken
@@ -25,7 +26,7 @@ is-empty-requires : tie.Need-is-empty-requires Inv-loop μ-loop
 is-empty-requires c κs = search needs
 
 round-requires : tie.Need-round-requires Inv-loop μ-loop
-round-requires c κs = c .before .before .before .before .before .before .before .before .before .pre
+round-requires c κs = c .before .before .before .before .before .before .pre
 
 count-requires : tie.Need-count-requires Inv-loop μ-loop
 count-requires c κs = search needs

@@ -3,17 +3,17 @@ use mathlib.Core.Bool.{_||_}
 use native.Mathlib.Omega.{arith}
 use Rattle.base_finite.specs.Below.{count}
 use Rattle.base_nodeset.specs.Set.{mem}
-use Rattle.base_tables.specs.Rows.{inRow}
+use Rattle.base_tables.specs.Sets.{inRow}
 use Rattle.solve_test.proofs.Spreading.{Growing, growing-starts, growing-on, fewer-open, grown, spread-from}
 use borrow.Author.Needs.{needs}
 use Rattle.solve_test.proofs.free.grow.Statement.{statement}
 use Rattle.solve_test.proofs.free.grow.Tie as tie
 
 abbrev Inv-loop : tie.InvT-loop
-Inv-loop near-low near-high within pending₀ unseen₀ pending unseen = Growing (inRow near-low near-high) (mem within) (mem pending₀) (mem pending) (mem unseen)
+Inv-loop near within pending₀ unseen₀ pending unseen = Growing (inRow near) (mem within) (mem pending₀) (mem pending) (mem unseen)
 
 abbrev μ-loop : tie.MeasureT-loop
-μ-loop near-low near-high within pending₀ unseen₀ pending unseen = count 128 (λ k. mem pending k || mem unseen k)
+μ-loop near within pending₀ unseen₀ pending unseen = count 128 (λ k. mem pending k || mem unseen k)
 
 intersection-requires : tie.Need-intersection-requires Inv-loop μ-loop
 intersection-requires c κs = search needs
@@ -23,7 +23,7 @@ difference-requires c κs = search needs
 
 loop-holds : tie.Need-loop-holds Inv-loop μ-loop
 loop-holds c =
-    let a = c .before .before .before .before .args in
+    let a = c .before .before .before .args in
     growing-starts _ (a .from) (a .within) (c .before .intersection .result) (c .difference .result) (c .before .intersection .ensures) (c .difference .ensures)
 
 pop-requires : tie.Need-pop-requires Inv-loop μ-loop
@@ -41,7 +41,7 @@ difference-requires-2 c κs = search needs
 returns : tie.Need-returns Inv-loop μ-loop
 returns c =
     let l = c .before .before .before .before .loop in
-    let a = c .before .before .before .before .before .before .before .before .before .args in
+    let a = c .before .before .before .before .before .before .before .before .args in
     spread-from _ (a .from) (a .within) (c .before .before .before .before .before .before .intersection .result) (c .difference2 .result) (c .before .before .before .before .before .before .intersection .ensures)
     (grown _ (a .within) (c .before .before .before .before .before .before .intersection .result) (l .pending) (l .unseen) (c .difference2 .result) (l .inv) (c .before .before .before .pop .ensures .empty (c .before .enum-told .given .1)) (c .difference2 .ensures))
 

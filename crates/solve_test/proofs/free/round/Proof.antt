@@ -2,23 +2,23 @@
 use native.Mathlib.Omega.{arith}
 use Rattle.base_finite.specs.Below.{count}
 use Rattle.base_nodeset.specs.Set.{mem}
-use Rattle.base_tables.specs.Rows.{inRow}
+use Rattle.base_tables.specs.Sets.{inRow}
 use Rattle.solve_test.proofs.Rounds.{RoundSo, round-start, round-more, round-end}
 use borrow.Author.Needs.{needs}
 use Rattle.solve_test.proofs.free.round.Statement.{statement}
 use Rattle.solve_test.proofs.free.round.Tie as tie
 
 abbrev Inv-loop : tie.InvT-loop
-Inv-loop low high near-low near-high leaf-low leaf-high kept₀ left₀ kept left = RoundSo (inRow low high) (inRow near-low near-high) (inRow leaf-low leaf-high) kept₀ left₀ kept left
+Inv-loop rows near leaf kept₀ left₀ kept left = RoundSo (inRow rows) (inRow near) (inRow leaf) kept₀ left₀ kept left
 
 abbrev μ-loop : tie.MeasureT-loop
-μ-loop low high near-low near-high leaf-low leaf-high kept₀ left₀ kept left = count 128 (mem left)
+μ-loop rows near leaf kept₀ left₀ kept left = count 128 (mem left)
 
 tops-requires : tie.Need-tops-requires Inv-loop μ-loop
-tops-requires c κs = c .before .before .before .before .before .before .pre .0 .0
+tops-requires c κs = c .before .before .before .pre .0 .0
 
 loop-holds : tie.Need-loop-holds Inv-loop μ-loop
-loop-holds c = round-start _ _ _ (c .before .before .before .before .before .before .before .args .rem) (c .tops .result) (c .tops .ensures)
+loop-holds c = round-start _ _ _ (c .before .before .before .before .args .rem) (c .tops .result) (c .tops .ensures)
 
 pop-requires : tie.Need-pop-requires Inv-loop μ-loop
 pop-requires c κs = search needs
@@ -31,18 +31,11 @@ enum-told c = search needs
 
 returns : tie.Need-returns Inv-loop μ-loop
 returns c =
-    let p = c .before .before in
-    let l = p .before in
-    let t = l .before in
-    let s = t .before .before .before .before .before .before .before in
-    round-end _ _ _ (s .args .rem) (t .tops .result) (l .loop .kept) (l .loop .left) (t .tops .ensures) (l .loop .inv) (p .pop .ensures .empty (c .enum-told .given .1))
+    round-end _ _ _ (c .before .before .before .before .before .before .before .before .args .rem) (c .before .before .before .before .tops .result) (c .before .before .before .loop .kept) (c .before .before .before .loop .left) (c .before .before .before .before .tops .ensures) (c .before .before .before .loop .inv) (c .before .before .pop .ensures .empty (c .enum-told .given .1))
 
 take-requires : tie.Need-take-requires Inv-loop μ-loop
 take-requires c κs =
-    let f = c .before in
-    let p = f .before .before in
-    let s = p .before .before .before .before .before .before .before .before .before in
-    ((s .pre .0 .0, s .pre .0 .1, s .pre .0 .2, p .pop .ensures .lowest _ _ (f .f .given .1) .below), s .pre .1)
+    ((c .before .before .before .before .before .before .before .before .before .pre .0 .0, c .before .before .before .before .before .before .before .before .before .pre .0 .1, c .before .before .before .before .before .before .before .before .before .pre .0 .2, c .before .before .before .pop .ensures .lowest _ _ (c .before .f .given .1) .below), c .before .before .before .before .before .before .before .before .before .pre .1)
 
 loop-less : tie.Need-loop-less Inv-loop μ-loop
 loop-less c =
@@ -51,12 +44,7 @@ loop-less c =
 
 loop-again : tie.Need-loop-again Inv-loop μ-loop
 loop-again c =
-    let f = c .before .before in
-    let p = f .before .before in
-    let l = p .before in
-    let t = l .before in
-    let s = t .before .before .before .before .before .before .before in
-    round-more _ _ _ (s .args .rem) (t .tops .result) (l .loop .kept) _ (c .take .result) _ _ (t .tops .ensures) (p .pop .ensures .lowest _ _ (f .f .given .1)) (l .loop .inv) (c .take .ensures)
+    round-more _ _ _ (c .before .before .before .before .before .before .before .before .before .before .args .rem) (c .before .before .before .before .before .before .tops .result) (c .before .before .before .before .before .loop .kept) _ (c .take .result) _ _ (c .before .before .before .before .before .before .tops .ensures) (c .before .before .before .before .pop .ensures .lowest _ _ (c .before .before .f .given .1)) (c .before .before .before .before .before .loop .inv) (c .take .ensures)
 
 pub round-spec : {M : Type 1} → statement M
 round-spec =

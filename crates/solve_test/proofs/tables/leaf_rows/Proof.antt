@@ -1,76 +1,62 @@
--- After v turns the leaves below v are in the rows.
-use Prim.Native.Nat.{_-_, _≤_}
+-- The leaves gone through are in the rows of their owners.
 use native.Mathlib.Omega.{arith}
-use borrow.Author.Needs.{needs}
-use Rattle.base_tables.specs.Rows.{Long}
+use Rattle.base_finite.specs.Below.{count}
+use Rattle.base_nodeset.specs.Set.{mem}
 use Rattle.solve_test.proofs.Filled.{LeafSo, leaves-start, leaves-more, leaves-end}
+use borrow.Author.Needs.{needs}
 use Rattle.solve_test.proofs.tables.leaf_rows.Statement.{statement}
 use Rattle.solve_test.proofs.tables.leaf_rows.Tie as tie
 
 abbrev Inv-loop : tie.InvT-loop
-Inv-loop parent n inner low₀ high₀ v₀ low high v = (v ≤ n) × Long low high × LeafSo n parent v low high
+Inv-loop owner rows₀ left₀ rows left = LeafSo left₀ owner left rows
 
 abbrev μ-loop : tie.MeasureT-loop
-μ-loop parent n inner low₀ high₀ v₀ low high v = n - v
+μ-loop owner rows₀ left₀ rows left = count 128 (mem left)
 
 loop-holds : tie.Need-loop-holds Inv-loop μ-loop
-loop-holds c =
-    let s = c .before .before .before in
-    (omega arith, s .pre .2 .long, leaves-start _ _ _ _ (s .pre .2))
+loop-holds c = leaves-start _ _ (c .before .before .pre .1)
+
+pop-requires : tie.Need-pop-requires Inv-loop μ-loop
+pop-requires c κs = search needs
+
+enum-known-l : tie.Need-enum-known-l Inv-loop μ-loop
+enum-known-l c = search needs
+
+enum-told : tie.Need-enum-told Inv-loop μ-loop
+enum-told c = search needs
+
+same-length : tie.Need-same-length Inv-loop μ-loop
+same-length c = omega (arith, c .before .before .before .before .before .before .pre .1 .long, c .before .before .before .loop .inv .long)
+
+returns : tie.Need-returns Inv-loop μ-loop
+returns c = leaves-end _ _ (c .before .before .before .loop .inv) (c .before .before .pop .ensures .empty (c .enum-told .given .1))
+
+shared-slice-read-put : tie.Need-shared-slice-read-put Inv-loop μ-loop
+shared-slice-read-put c =
+    let first = c .before .before .before .before .before .pop .ensures .lowest _ _ (c .before .before .before .l .given .1) in
+    omega (arith, c .before .before .before .before .before .before .before .before .before .pre .0 _ (c .before .before .before .before .before .before .loop .inv .of-leaves _ (first .in-set)) .0)
+
+cast-put : tie.Need-cast-put Inv-loop μ-loop
+cast-put c =
+    let first = c .before .before .before .before .before .pop .ensures .lowest _ _ (c .before .before .before .l .given .1) in
+    omega (arith, c .before .before .before .before .before .before .before .before .before .pre .0 _ (c .before .before .before .before .before .before .loop .inv .of-leaves _ (first .in-set)) .1)
 
 only-requires : tie.Need-only-requires Inv-loop μ-loop
-only-requires c κs =
-    let s = c .before .before .before .before .before in
-    omega (arith, s .pre .0 .few)
-
-difference-requires : tie.Need-difference-requires Inv-loop μ-loop
-difference-requires c κs = search needs
-
-own-requires : tie.Need-own-requires Inv-loop μ-loop
-own-requires c κs =
-    let l = c .before .before .before .before .before in
-    let s = l .before .before .before .before in
-    (s .pre .0, c .before .before .before .before .loop-test .taken)
+only-requires c κs = c .before .before .before .before .before .pop .ensures .lowest _ _ (c .before .before .before .l .given .1) .below
 
 put-requires : tie.Need-put-requires Inv-loop μ-loop
 put-requires c κs =
-    let l = c .before .before .before .before .before .before in
-    let s = l .before .before .before .before in
-    (l .loop .inv .1, omega (arith, s .pre .0 .few, c .own .ensures .1))
-
-add-v : tie.Need-add-v Inv-loop μ-loop
-add-v c = search needs
+    let first = c .before .before .before .before .before .before .pop .ensures .lowest _ _ (c .before .before .before .before .l .given .1) in
+    (c .before .before .before .before .before .before .before .loop .inv .long, c .before .before .before .before .before .before .before .before .before .before .pre .0 _ (c .before .before .before .before .before .before .before .loop .inv .of-leaves _ (first .in-set)) .1)
 
 loop-less : tie.Need-loop-less Inv-loop μ-loop
-loop-less c = search needs
+loop-less c =
+    let first = c .before .before .before .before .before .before .before .before .before .pop .ensures .lowest _ _ (c .before .before .before .before .before .before .before .l .given .1) in
+    omega arith
 
 loop-again : tie.Need-loop-again Inv-loop μ-loop
 loop-again c =
-    let p = c .before .before .before .before in
-    let r = p .before in
-    let d = r .before .before .before in
-    let t = d .before .before in
-    let s = t .before .before .before .before .before in
-    let l = t .before .loop in (
-      omega arith,
-      p .put .ensures .long,
-      leaves-more _ _ (l .low) (l .high) _ _ (l .v) (r .own .result) (s .args .inner) (d .before .only .result) (d .difference .result) (s .pre .0 .few) (t .loop-test .taken) (l .inv .2) (s .pre .1) (d .before .only .ensures) (d .difference .ensures) (r .own .ensures .0) (p .put .ensures),
-    )
-
-same-length : tie.Need-same-length Inv-loop μ-loop
-same-length c =
-    let s = c .before .before .before .before .before in
-    omega (arith, s .pre .2 .long .0, c .before .loop .inv .1 .0)
-
-same-length-2 : tie.Need-same-length-2 Inv-loop μ-loop
-same-length-2 c =
-    let s = c .before .before .before .before .before in
-    omega (arith, s .pre .2 .long .1, c .before .loop .inv .1 .1)
-
-returns : tie.Need-returns Inv-loop μ-loop
-returns c =
-    let l = c .before .loop in
-    record { long = l .inv .1; leaf-of = leaves-end _ (l .v) _ (l .low) (l .high) (omega arith) (l .inv .2) }
+    leaves-more _ _ (c .before .before .before .only .result) (c .before .before .before .only .ensures) (c .before .before .before .before .before .before .before .before .before .before .loop .inv) (c .before .before .before .before .before .before .before .before .before .pop .ensures .lowest _ _ (c .before .before .before .before .before .before .before .l .given .1)) (c .before .before .put .ensures)
 
 pub leaf-rows-spec : {M : Type 1} → statement M
 leaf-rows-spec =
@@ -79,13 +65,14 @@ leaf-rows-spec =
     Inv-loop
     μ-loop
     loop-holds
-    only-requires
-    difference-requires
-    own-requires
-    put-requires
-    add-v
-    loop-less
-    loop-again
+    pop-requires
+    enum-known-l
+    enum-told
     same-length
-    same-length-2
-    returns)
+    returns
+    shared-slice-read-put
+    cast-put
+    only-requires
+    put-requires
+    loop-less
+    loop-again)

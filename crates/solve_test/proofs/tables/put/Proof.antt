@@ -16,16 +16,9 @@ put-at-requires c κs = search needs
 same-length : tie.Need-same-length
 same-length c = search needs
 
-same-length-2 : tie.Need-same-length-2
-same-length-2 c = search needs
-
 returns : tie.Need-returns
 returns c =
-    let p = c .before .before .before .before in
-    let u = p .before .before .before in
-    let s = u .before in
-    let r = s .before .before .before .before .before in
-    put-row _ _ (s .set-at .result) (r .pre .0) (s .set-at .ensures) (u .union .ensures) (p .put-at .ensures)
+    put-row _ _ (c .before .before .before .before .before .set-at .result) (c .before .before .before .before .before .before .before .before .pre .0) (c .before .before .before .before .before .set-at .ensures) (c .before .before .before .before .union .ensures) (c .before .before .put-at .ensures)
 
 pub put-spec : {M : Type 1} → statement M
 put-spec =
@@ -35,5 +28,4 @@ put-spec =
     union-requires
     put-at-requires
     same-length
-    same-length-2
     returns)

@@ -4,68 +4,64 @@ use mathlib.Core.Path.{refl}
 use native.Mathlib.Omega.{arith}
 use denote.Ref.{now}
 use Rattle.theory_walk.proofs.States.{at-leaving}
-use Rattle.solve_branch.proofs.Walks.{left-all}
-use Rattle.solve_branch.proofs.Fitting.{owners-table, valid-within, within-fewer}
-use Rattle.solve_branch.proofs.Dives.{back-leaving, back-last, back-still}
-use Rattle.solve_branch.proofs.Saved.{saved-fewer, saved-there}
-use Rattle.solve_walk.proofs.Moved.{same-move, end-not-to}
+use Rattle.solve_branch.proofs.Tables.{noted-long}
+use Rattle.solve_branch.proofs.Fitting.{valid-noted}
+use Rattle.solve_branch.proofs.Walks.{left-all, back-leaving}
+use Rattle.solve_branch.proofs.Dived.{reached-to, reached-none, stuck-back}
+use Rattle.solve_walk.proofs.Moved.{left-from, stays-leaves}
 use borrow.Author.Needs.{needs}
 use Rattle.solve_walk.proofs.steps.next.Statement.{statement}
 use Rattle.solve_walk.proofs.steps.next.Tie as tie
 
 back-requires : tie.Need-back-requires
 back-requires c κs =
-    let a = c .before .before .before .before .before .before .before .before .before .before .args in
-    let h = c .before .before .before .before .before .before .before .before .before .before .pre .0 .1 .walked in
-    let x = c .before .before .before .before .before .before .before .before .before .before .pre .0 .1 .stands in
-    let w = valid-within (h .graph) (a .n) (now (a .owner)) (now (a .uppers)) (now (a .lowers)) (a .roots) (h .fits .owned) (a .depth) (c .before .before .before .before .before .before .before .before .before .before .pre .1) (x .at .valid) in
-    (w .uppers-long, w .lowers-long)
+    let a = c .before .before .before .before .args in
+    let w = c .before .before .before .before .pre .0 .1 .walked in
+    let x = c .before .before .before .before .pre .0 .1 .stands in
+    noted-long (a .at .depth) (valid-noted (w .graph) (a .trees) (now (a .owner)) (now (a .trail)) (w .fits) (a .at .depth) (c .before .before .before .before .pre .1) (x .reading .valid))
 
 same-length : tie.Need-same-length
 same-length c = search needs
 
-same-length-2 : tie.Need-same-length-2
-same-length-2 c = search needs
-
 returns : tie.Need-returns
-returns c =
-    λ g k f x sv. (left-all (now (c .before .before .before .before .before .before .before .before .before .before .before .before .args .uppers)) (now (c .before .before .before .before .before .before .before .before .before .before .before .before .args .lowers)) (c .before .back .result) (omega (arith, c .if1 .taken)) (back-leaving (now (c .before .before .before .before .before .before .before .before .before .before .before .before .args .uppers)) (now (c .before .before .before .before .before .before .before .before .before .before .before .before .args .lowers)) (c .before .before .before .before .before .before .before .before .before .before .before .before .args .depth) (c .before .back .result) (f .owned .shaped) (c .before .back .ensures) (at-leaving (x .at))), λ deep is. absurd (end-not-to is))
+returns c = λ g k f x. left-all (now (c .before .before .before .before .before .before .args .trail)) (c .before .back .result) (omega (arith, c .if1 .taken)) (back-leaving (now (c .before .before .before .before .before .before .args .trail)) (c .before .before .before .before .before .before .args .at .depth) (c .before .back .result) (f .shaped) (c .before .back .ensures) (at-leaving (x .reading)))
 
 sub-hop : tie.Need-sub-hop
 sub-hop c = search needs
 
 hop-requires : tie.Need-hop-requires
 hop-requires c κs =
-    let a = c .before .before .before .before .before .before .before .before .before .before .before .before .before .before .before .before .before .before .args in
-    let h = c .before .before .before .before .before .before .before .before .before .before .before .before .before .before .before .before .before .before .pre .0 .1 .walked in
-    let x = c .before .before .before .before .before .before .before .before .before .before .before .before .before .before .before .before .before .before .pre .0 .1 .stands in
-    let w = valid-within (h .graph) (a .n) (now (a .owner)) (now (a .uppers)) (now (a .lowers)) (a .roots) (h .fits .owned) (a .depth) (c .before .before .before .before .before .before .before .before .before .before .before .before .before .before .before .before .before .before .pre .1) (x .at .valid) in
-    ((owners-table (h .owners-long) (h .fits .owned), h .parents-table .few, x .reduction .wide, c .before .before .before .before .before .before .before .before .before .before .before .before .before .before .before .before .before .before .pre .0 .1 .saved .long), within-fewer (c .before .before .before .before .before .before .before .back .result - 1 + 1) refl refl (omega (arith, c .before .before .before .before .before .before .before .back .ensures .fewer, c .before .before .before .before .before .before .if1 .left)) w)
+    let a = c .before .before .before .before .before .before .before .before .args in
+    let w = c .before .before .before .before .before .before .before .before .pre .0 .1 .walked in
+    let x = c .before .before .before .before .before .before .before .before .pre .0 .1 .stands in
+    let noted = valid-noted (w .graph) (a .trees) (now (a .owner)) (now (a .trail)) (w .fits) (a .at .depth) (c .before .before .before .before .before .before .before .before .pre .1) (x .reading .valid) in
+    (w .table, x .matches .long, λ i h. noted i (omega (arith, c .before .before .before .back .ensures .fewer, c .before .before .if1 .left)))
 
-enum-known-deep : tie.Need-enum-known-deep
-enum-known-deep c = search needs
+enum-known-reading : tie.Need-enum-known-reading
+enum-known-reading c = search needs
 
-enum-told : tie.Need-enum-told
-enum-told c = search needs
+enum-known-stays : tie.Need-enum-known-stays
+enum-known-stays c = search needs
 
 advance-requires : tie.Need-advance-requires
 advance-requires c κs =
-    let h = c .before .before .before .before .before .before .before .before .before .before .before .before .before .before .before .before .before .before .before .before .before .before .before .before .before .before .before .before .before .before .before .before .before .before .before .before .before .before .before .pre .0 .1 .walked in
-    let x = c .before .before .before .before .before .before .before .before .before .before .before .before .before .before .before .before .before .before .before .before .before .before .before .before .before .before .before .before .before .before .before .before .before .before .before .before .before .before .before .pre .0 .1 .stands in
-    let y = c .before .before .before .before .before .before .before .before .before .before .before .before .before .before .before .before .before .before .before .before .hop .ensures .1 (h .graph) (c .before .before .before .before .before .before .before .before .before .before .before .before .before .before .before .before .before .before .before .before .before .before .before .before .before .before .before .before .before .before .before .before .before .before .before .before .before .before .before .pre .0 .0 + 1) (h .fits .owned)
-    (back-last (now (c .before .before .before .before .before .before .before .before .before .before .before .before .before .before .before .before .before .before .before .before .before .before .before .before .before .before .before .before .before .before .before .before .before .before .before .before .before .before .before .args .uppers)) (now (c .before .before .before .before .before .before .before .before .before .before .before .before .before .before .before .before .before .before .before .before .before .before .before .before .before .before .before .before .before .before .before .before .before .before .before .before .before .before .before .args .lowers)) (c .before .before .before .before .before .before .before .before .before .before .before .before .before .before .before .before .before .before .before .before .before .before .before .before .before .before .before .before .before .before .before .before .before .before .before .before .before .before .before .args .depth) (c .before .before .before .before .before .before .before .before .before .before .before .before .before .before .before .before .before .before .before .before .before .before .before .before .before .before .before .before .back .result) (h .fits .owned .shaped) (c .before .before .before .before .before .before .before .before .before .before .before .before .before .before .before .before .before .before .before .before .before .before .before .before .before .before .before .before .back .ensures) (at-leaving (x .at)) (omega (arith, c .before .before .before .before .before .before .before .before .before .before .before .before .before .before .before .before .before .before .before .before .before .before .before .before .before .before .before .if1 .left))) (c .before .before .before .before .before .before .before .before .before .before .before .before .before .before .before .before .before .before .before .before .before .before .before .before .before .before .before .before .back .ensures .first (omega (arith, c .before .before .before .before .before .before .before .before .before .before .before .before .before .before .before .before .before .before .before .before .before .before .before .before .before .before .before .if1 .left)))
-    (saved-fewer (c .before .before .before .before .before .before .before .before .before .before .before .before .before .before .before .before .before .before .before .before .before .before .before .before .before .before .before .before .back .result - 1 + 1) refl refl (omega (arith, c .before .before .before .before .before .before .before .before .before .before .before .before .before .before .before .before .before .before .before .before .before .before .before .before .before .before .before .before .back .ensures .fewer, c .before .before .before .before .before .before .before .before .before .before .before .before .before .before .before .before .before .before .before .before .before .before .before .before .before .before .before .if1 .left)) (c .before .before .before .before .before .before .before .before .before .before .before .before .before .before .before .before .before .before .before .before .before .before .before .before .before .before .before .before .before .before .before .before .before .before .before .before .before .before .before .pre .0 .1 .saved)) in (
-      record {
-        walked = h;
-        saved = saved-there (omega (arith, c .before .before .before .before .before .before .before .before .before .before .before .before .before .before .before .before .before .before .before .before .before .before .before .before .before .before .before .if1 .left)) (y .1 .0);
-        passed = c .before .before .before .before .before .before .before .before .before .before .before .before .before .before .before .before .before .before .before .before .before .before .before .before .before .before .before .before .before .before .before .before .before .before .before .before .before .before .before .pre .0 .0 + 1;
-        leaving = back-still (now (c .before .before .before .before .before .before .before .before .before .before .before .before .before .before .before .before .before .before .before .before .before .before .before .before .before .before .before .before .before .before .before .before .before .before .before .before .before .before .before .args .uppers)) (now (c .before .before .before .before .before .before .before .before .before .before .before .before .before .before .before .before .before .before .before .before .before .before .before .before .before .before .before .before .before .before .before .before .before .before .before .before .before .before .before .args .lowers)) (c .before .before .before .before .before .before .before .before .before .before .before .before .before .before .before .before .before .before .before .before .before .before .before .before .before .before .before .before .before .before .before .before .before .before .before .before .before .before .before .args .depth) (c .before .before .before .before .before .before .before .before .before .before .before .before .before .before .before .before .before .before .before .before .before .before .before .before .before .before .before .before .back .result) (h .fits .owned .shaped) (c .before .before .before .before .before .before .before .before .before .before .before .before .before .before .before .before .before .before .before .before .before .before .before .before .before .before .before .before .back .ensures) (at-leaving (x .at)) (omega (arith, c .before .before .before .before .before .before .before .before .before .before .before .before .before .before .before .before .before .before .before .before .before .before .before .before .before .before .before .if1 .left)) (c .before .before .before .before .before .before .before .before .before .before .before .before .before .before .before .before .before .before .before .before .hop .ensures .0 (c .before .before .before .before .before .before .enum-told .given .1));
-      },
-      ((omega (arith, x .reduction .wide .0, c .before .before .before .before .before .before .before .before .before .before .before .before .before .before .before .before .before .before .before .before .hop .kept), omega (arith, x .reduction .wide .1, c .before .before .before .before .before .before .before .before .before .before .before .before .before .before .before .before .before .before .before .before .hop .kept)), (omega (arith, c .before .before .before .before .before .before .before .before .before .before .before .before .before .before .before .before .before .before .before .before .before .before .before .before .before .before .before .before .before .before .before .before .before .before .before .before .before .before .before .pre .1 .0, c .before .before .before .before .before .before .before .before .before .before .before .before .before .before .before .before .before .before .before .before .hop .kept), omega (arith, c .before .before .before .before .before .before .before .before .before .before .before .before .before .before .before .before .before .before .before .before .before .before .before .before .before .before .before .before .before .before .before .before .before .before .before .before .before .before .before .pre .1 .1, c .before .before .before .before .before .before .before .before .before .before .before .before .before .before .before .before .before .before .before .before .hop .kept))),
-    )
+    let w = c .before .before .before .before .before .before .before .before .before .before .before .before .before .before .before .before .before .before .pre .0 .1 .walked in
+    let x = c .before .before .before .before .before .before .before .before .before .before .before .before .before .before .before .before .before .before .pre .0 .1 .stands in
+    let y = left-from (now (c .before .before .before .before .before .before .before .before .before .before .before .before .before .before .before .before .before .before .args .trail)) (c .before .before .before .before .before .before .before .before .before .before .before .before .before .before .before .before .before .before .args .at .depth) (c .before .before .before .before .before .before .before .before .before .before .before .before .before .back .result) (w .fits) (c .before .before .before .before .before .before .before .before .before .before .before .before .before .back .ensures) x (omega (arith, c .before .before .before .before .before .before .before .before .before .before .before .before .if1 .left)) refl in
+    let m = reached-none (w .graph) _ _ (c .before .before .before .before .before .before .before .before .before .before .before .before .before .before .before .before .before .before .pre .0 .0 + 1) (c .before .before .before .stays .given .1) (c .before .before .before .before .before .before .before .before .before .hop .ensures .1 (w .graph) (c .before .before .before .before .before .before .before .before .before .before .before .before .before .before .before .before .before .before .pre .0 .0 + 1) (w .fits) (x .matches) (omega (arith, c .before .before .before .before .before .before .before .before .before .before .before .before .before .back .ensures .fewer)) y (c .before .before .before .before .before .before .before .before .before .before .before .before .before .back .ensures .first (omega (arith, c .before .before .before .before .before .before .before .before .before .before .before .before .if1 .left)))) in
+    let b = stuck-back (c .before .before .before .before .before .before .before .before .before .before .before .before .before .back .result - 1) (now (c .before .before .before .before .before .before .before .before .before .before .before .before .before .before .before .before .before .before .args .trail)) _ (c .before .before .before .stays .given .1) (c .before .before .before .before .before .before .before .before .before .hop .ensures .0) in
+    (record { walked = w; passed = c .before .before .before .before .before .before .before .before .before .before .before .before .before .before .before .before .before .before .pre .0 .0 + 1; leaves = stays-leaves (now (c .before .before .before .before .before .before .before .before .before .before .before .before .before .before .before .before .before .before .args .trail)) _ (c .before .before .before .before .before .before .before .before .before .before .before .before .before .back .result - 1) (b .0) (b .1) y m }, omega (arith, c .before .before .before .before .before .before .before .before .before .before .before .before .before .before .before .before .before .before .pre .1, c .before .before .before .before .before .before .before .before .before .hop .kept))
+
+same-length-2 : tie.Need-same-length-2
+same-length-2 c = search needs
 
 same-length-3 : tie.Need-same-length-3
 same-length-3 c = search needs
+
+returns-2 : tie.Need-returns-2
+returns-2 c = λ g k f x.
+    let y = left-from (now (c .before .before .before .before .before .before .before .before .before .before .before .before .before .before .before .before .args .trail)) (c .before .before .before .before .before .before .before .before .before .before .before .before .before .before .before .before .args .at .depth) (c .before .before .before .before .before .before .before .before .before .before .before .back .result) f (c .before .before .before .before .before .before .before .before .before .before .before .back .ensures) x (omega (arith, c .before .before .before .before .before .before .before .before .before .before .if1 .left)) refl in
+    reached-to g _ _ (k + 1) (c .before .reading .given .1) (c .before .before .before .before .before .before .before .hop .ensures .1 g (k + 1) f (x .matches) (omega (arith, c .before .before .before .before .before .before .before .before .before .before .before .back .ensures .fewer)) y (c .before .before .before .before .before .before .before .before .before .before .before .back .ensures .first (omega (arith, c .before .before .before .before .before .before .before .before .before .before .if1 .left))))
 
 same-length-4 : tie.Need-same-length-4
 same-length-4 c = search needs
@@ -73,48 +69,12 @@ same-length-4 c = search needs
 same-length-5 : tie.Need-same-length-5
 same-length-5 c = search needs
 
-same-length-6 : tie.Need-same-length-6
-same-length-6 c = search needs
-
-same-length-7 : tie.Need-same-length-7
-same-length-7 c = search needs
-
-same-length-8 : tie.Need-same-length-8
-same-length-8 c = search needs
-
-returns-2 : tie.Need-returns-2
-returns-2 c =
-    λ g k f x sv.
-    let y = c .before .before .before .before .before .before .before .before .before .before .before .before .before .before .before .hop .ensures .1 g (k + 1) (f .owned)
-    (back-last (now (c .before .before .before .before .before .before .before .before .before .before .before .before .before .before .before .before .before .before .before .before .before .before .before .before .before .before .before .before .before .before .before .before .before .before .args .uppers)) (now (c .before .before .before .before .before .before .before .before .before .before .before .before .before .before .before .before .before .before .before .before .before .before .before .before .before .before .before .before .before .before .before .before .before .before .args .lowers)) (c .before .before .before .before .before .before .before .before .before .before .before .before .before .before .before .before .before .before .before .before .before .before .before .before .before .before .before .before .before .before .before .before .before .before .args .depth) (c .before .before .before .before .before .before .before .before .before .before .before .before .before .before .before .before .before .before .before .before .before .before .before .back .result) (f .owned .shaped) (c .before .before .before .before .before .before .before .before .before .before .before .before .before .before .before .before .before .before .before .before .before .before .before .back .ensures) (at-leaving (x .at)) (omega (arith, c .before .before .before .before .before .before .before .before .before .before .before .before .before .before .before .before .before .before .before .before .before .before .if1 .left))) (c .before .before .before .before .before .before .before .before .before .before .before .before .before .before .before .before .before .before .before .before .before .before .before .back .ensures .first (omega (arith, c .before .before .before .before .before .before .before .before .before .before .before .before .before .before .before .before .before .before .before .before .before .before .if1 .left)))
-    (saved-fewer (c .before .before .before .before .before .before .before .before .before .before .before .before .before .before .before .before .before .before .before .before .before .before .before .back .result - 1 + 1) refl refl (omega (arith, c .before .before .before .before .before .before .before .before .before .before .before .before .before .before .before .before .before .before .before .before .before .before .before .back .ensures .fewer, c .before .before .before .before .before .before .before .before .before .before .before .before .before .before .before .before .before .before .before .before .before .before .if1 .left)) sv) in
-    (y .0 _ (c .before .deep .given .1), λ deep is. saved-there (same-move is) (y .1 .1 _ (c .before .deep .given .1)))
-
-same-length-9 : tie.Need-same-length-9
-same-length-9 c = search needs
-
-same-length-10 : tie.Need-same-length-10
-same-length-10 c = search needs
-
-same-length-11 : tie.Need-same-length-11
-same-length-11 c = search needs
-
-same-length-12 : tie.Need-same-length-12
-same-length-12 c = search needs
-
-same-length-13 : tie.Need-same-length-13
-same-length-13 c = search needs
-
-same-length-14 : tie.Need-same-length-14
-same-length-14 c = search needs
-
 returns-3 : tie.Need-returns-3
-returns-3 c =
-    λ g k f x sv.
-    let y = c .before .before .before .before .before .before .before .before .before .before .before .before .before .before .before .before .before .before .before .before .before .before .before .before .before .before .before .before .before .before .before .before .before .hop .ensures .1 g (k + 1) (f .owned)
-    (back-last (now (c .before .before .before .before .before .before .before .before .before .before .before .before .before .before .before .before .before .before .before .before .before .before .before .before .before .before .before .before .before .before .before .before .before .before .before .before .before .before .before .before .before .before .before .before .before .before .before .before .before .before .before .before .args .uppers)) (now (c .before .before .before .before .before .before .before .before .before .before .before .before .before .before .before .before .before .before .before .before .before .before .before .before .before .before .before .before .before .before .before .before .before .before .before .before .before .before .before .before .before .before .before .before .before .before .before .before .before .before .before .before .args .lowers)) (c .before .before .before .before .before .before .before .before .before .before .before .before .before .before .before .before .before .before .before .before .before .before .before .before .before .before .before .before .before .before .before .before .before .before .before .before .before .before .before .before .before .before .before .before .before .before .before .before .before .before .before .before .args .depth) (c .before .before .before .before .before .before .before .before .before .before .before .before .before .before .before .before .before .before .before .before .before .before .before .before .before .before .before .before .before .before .before .before .before .before .before .before .before .before .before .before .before .back .result) (f .owned .shaped) (c .before .before .before .before .before .before .before .before .before .before .before .before .before .before .before .before .before .before .before .before .before .before .before .before .before .before .before .before .before .before .before .before .before .before .before .before .before .before .before .before .before .back .ensures) (at-leaving (x .at)) (omega (arith, c .before .before .before .before .before .before .before .before .before .before .before .before .before .before .before .before .before .before .before .before .before .before .before .before .before .before .before .before .before .before .before .before .before .before .before .before .before .before .before .before .if1 .left))) (c .before .before .before .before .before .before .before .before .before .before .before .before .before .before .before .before .before .before .before .before .before .before .before .before .before .before .before .before .before .before .before .before .before .before .before .before .before .before .before .before .before .back .ensures .first (omega (arith, c .before .before .before .before .before .before .before .before .before .before .before .before .before .before .before .before .before .before .before .before .before .before .before .before .before .before .before .before .before .before .before .before .before .before .before .before .before .before .before .before .if1 .left)))
-    (saved-fewer (c .before .before .before .before .before .before .before .before .before .before .before .before .before .before .before .before .before .before .before .before .before .before .before .before .before .before .before .before .before .before .before .before .before .before .before .before .before .before .before .before .before .back .result - 1 + 1) refl refl (omega (arith, c .before .before .before .before .before .before .before .before .before .before .before .before .before .before .before .before .before .before .before .before .before .before .before .before .before .before .before .before .before .before .before .before .before .before .before .before .before .before .before .before .before .back .ensures .fewer, c .before .before .before .before .before .before .before .before .before .before .before .before .before .before .before .before .before .before .before .before .before .before .before .before .before .before .before .before .before .before .before .before .before .before .before .before .before .before .before .before .if1 .left)) sv) in
-    c .before .before .before .before .before .before .before .before .before .before .before .before .advance .ensures g (k + 1) f (back-still (now (c .before .before .before .before .before .before .before .before .before .before .before .before .before .before .before .before .before .before .before .before .before .before .before .before .before .before .before .before .before .before .before .before .before .before .before .before .before .before .before .before .before .before .before .before .before .before .before .before .before .before .before .before .args .uppers)) (now (c .before .before .before .before .before .before .before .before .before .before .before .before .before .before .before .before .before .before .before .before .before .before .before .before .before .before .before .before .before .before .before .before .before .before .before .before .before .before .before .before .before .before .before .before .before .before .before .before .before .before .before .before .args .lowers)) (c .before .before .before .before .before .before .before .before .before .before .before .before .before .before .before .before .before .before .before .before .before .before .before .before .before .before .before .before .before .before .before .before .before .before .before .before .before .before .before .before .before .before .before .before .before .before .before .before .before .before .before .before .args .depth) (c .before .before .before .before .before .before .before .before .before .before .before .before .before .before .before .before .before .before .before .before .before .before .before .before .before .before .before .before .before .before .before .before .before .before .before .before .before .before .before .before .before .back .result) (f .owned .shaped) (c .before .before .before .before .before .before .before .before .before .before .before .before .before .before .before .before .before .before .before .before .before .before .before .before .before .before .before .before .before .before .before .before .before .before .before .before .before .before .before .before .before .back .ensures) (at-leaving (x .at)) (omega (arith, c .before .before .before .before .before .before .before .before .before .before .before .before .before .before .before .before .before .before .before .before .before .before .before .before .before .before .before .before .before .before .before .before .before .before .before .before .before .before .before .before .if1 .left)) (c .before .before .before .before .before .before .before .before .before .before .before .before .before .before .before .before .before .before .before .before .before .before .before .before .before .before .before .before .before .before .before .before .before .hop .ensures .0 (c .before .before .before .before .before .before .before .before .before .before .before .before .before .before .before .before .before .before .before .enum-told .given .1))) (saved-there (omega (arith, c .before .before .before .before .before .before .before .before .before .before .before .before .before .before .before .before .before .before .before .before .before .before .before .before .before .before .before .before .before .before .before .before .before .before .before .before .before .before .before .before .if1 .left)) (y .1 .0))
+returns-3 c = λ g k f x.
+    let y = left-from (now (c .before .before .before .before .before .before .before .before .before .before .before .before .before .before .before .before .before .before .before .before .before .before .before .args .trail)) (c .before .before .before .before .before .before .before .before .before .before .before .before .before .before .before .before .before .before .before .before .before .before .before .args .at .depth) (c .before .before .before .before .before .before .before .before .before .before .before .before .before .before .before .before .before .before .back .result) f (c .before .before .before .before .before .before .before .before .before .before .before .before .before .before .before .before .before .before .back .ensures) x (omega (arith, c .before .before .before .before .before .before .before .before .before .before .before .before .before .before .before .before .before .if1 .left)) refl in
+    let m = reached-none g _ _ (k + 1) (c .before .before .before .before .before .before .before .before .stays .given .1) (c .before .before .before .before .before .before .before .before .before .before .before .before .before .before .hop .ensures .1 g (k + 1) f (x .matches) (omega (arith, c .before .before .before .before .before .before .before .before .before .before .before .before .before .before .before .before .before .before .back .ensures .fewer)) y (c .before .before .before .before .before .before .before .before .before .before .before .before .before .before .before .before .before .before .back .ensures .first (omega (arith, c .before .before .before .before .before .before .before .before .before .before .before .before .before .before .before .before .before .if1 .left)))) in
+    let b = stuck-back (c .before .before .before .before .before .before .before .before .before .before .before .before .before .before .before .before .before .before .back .result - 1) (now (c .before .before .before .before .before .before .before .before .before .before .before .before .before .before .before .before .before .before .before .before .before .before .before .args .trail)) _ (c .before .before .before .before .before .before .before .before .stays .given .1) (c .before .before .before .before .before .before .before .before .before .before .before .before .before .before .hop .ensures .0) in
+    c .before .before .before .before .advance .ensures g (k + 1) f (stays-leaves (now (c .before .before .before .before .before .before .before .before .before .before .before .before .before .before .before .before .before .before .before .before .before .before .before .args .trail)) _ (c .before .before .before .before .before .before .before .before .before .before .before .before .before .before .before .before .before .before .back .result - 1) (b .0) (b .1) y m)
 
 pub next-spec : {M : Type 1} → statement M
 next-spec =
@@ -122,24 +82,15 @@ next-spec =
     (tie.spec
     back-requires
     same-length
-    same-length-2
     returns
     sub-hop
     hop-requires
-    enum-known-deep
-    enum-told
+    enum-known-reading
+    enum-known-stays
     advance-requires
+    same-length-2
     same-length-3
+    returns-2
     same-length-4
     same-length-5
-    same-length-6
-    same-length-7
-    same-length-8
-    returns-2
-    same-length-9
-    same-length-10
-    same-length-11
-    same-length-12
-    same-length-13
-    same-length-14
     returns-3)

@@ -1,0 +1,47 @@
+-- Back to the level, and down into the other half.
+use Prim.Native.Nat.{_+_}
+use mathlib.Core.Path.{refl}
+use native.Mathlib.Omega.{arith}
+use denote.Ref.{now}
+use Rattle.solve_branch.proofs.Tables.{valid-fewer, noted-turned}
+use Rattle.solve_branch.proofs.Stack.{matches-fewer}
+use Rattle.solve_branch.proofs.Walks.{turned-open}
+use borrow.Author.Needs.{needs}
+use Rattle.solve_branch.proofs.dive.turn.Statement.{statement}
+use Rattle.solve_branch.proofs.dive.turn.Tie as tie
+
+back-to-requires : tie.Need-back-to-requires
+back-to-requires c κs = (c .before .before .before .before .before .pre .0, c .before .before .before .before .before .pre .1, λ i h. c .before .before .before .before .before .pre .2 i (omega arith))
+
+swap-requires : tie.Need-swap-requires
+swap-requires c κs = c .before .before .before .before .before .before .before .before .before .pre .2 (c .before .before .before .before .before .before .before .before .before .args .last) (omega arith) .long
+
+down-requires : tie.Need-down-requires
+down-requires c κs = (c .before .before .before .before .before .before .before .before .before .before .before .before .before .before .pre .0, omega (arith, c .before .before .before .before .before .before .before .before .before .before .before .before .before .before .pre .1, c .before .before .before .before .before .before .before .before .back-to .kept), noted-turned (now (c .before .before .before .before .before .before .before .before .before .before .before .before .before .before .args .trail)) _ (c .before .before .before .before .before .before .before .before .before .before .before .before .before .before .args .last) _ (c .before .before .before .before .swap .ensures) (c .before .before .before .before .before .before .before .before .back-to .ensures .0) (c .before .before .before .before .before .before .before .before .before .before .before .before .before .before .pre .2 (c .before .before .before .before .before .before .before .before .before .before .before .before .before .before .args .last) (omega arith)))
+
+same-length : tie.Need-same-length
+same-length c = search needs
+
+same-length-2 : tie.Need-same-length-2
+same-length-2 c = search needs
+
+returns : tie.Need-returns
+returns c =
+    let a = c .before .before .before .before .before .before .before .before .before .before .before .before .before .before .before .before .before .args in (
+      (c .before .before .before .before .before .before .before .swap .ensures, omega (arith, c .before .before .down .ensures .0 .0, c .before .before .before .before .before .before .before .before .before .before .before .back-to .ensures .0)),
+      λ g f m h v less.
+          let x = c .before .before .before .before .before .before .before .before .before .before .before .back-to .ensures .1 g f m h (valid-fewer (now (a .trail)) g (a .last) (a .last + 1) (omega arith) v) in
+          let o = turned-open f (now (a .trail)) _ (a .last) (c .before .before .before .before .before .before .before .before .before .before .before .back-to .result .depth) (c .before .before .before .before .before .before .before .swap .ensures) (c .before .before .before .before .before .before .before .before .before .before .before .back-to .ensures .0) (c .before .before .before .before .before .before .before .before .before .before .before .before .before .before .before .before .before .pre .2 (a .last) (omega arith) .long) v less in
+          c .before .before .down .ensures .1 g f (matches-fewer (c .before .before .before .before .before .before .before .before .before .before .before .back-to .result) (o .kept) (omega arith) refl (x .0)) (x .1) (o .shaped) (o .fresh),
+    )
+
+pub turn-spec : {M : Type 1} → statement M
+turn-spec =
+    tie.close
+    (tie.spec
+    back-to-requires
+    swap-requires
+    down-requires
+    same-length
+    same-length-2
+    returns)
