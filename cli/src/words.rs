@@ -31,30 +31,47 @@ fn nodes(sheet: &[u8]) -> usize {
     usize::from(form::commands(sheet).nodes).min(NODES)
 }
 
-/// Numbers up to 255 in figures: a long list writes millions of them.
-struct Figures(Vec<String>);
-
-impl Figures {
-    fn new() -> Figures {
-        Figures((0..=255).map(|number: u8| number.to_string()).collect())
+/// The figures of a number, and how many there are.
+const fn figures(number: u8) -> ([u8; 3], usize) {
+    let [hundreds, tens, ones] = [b'0' + number / 100, b'0' + number / 10 % 10, b'0' + number % 10];
+    match number {
+        0..=9 => ([ones, 0, 0], 1),
+        10..=99 => ([tens, ones, 0], 2),
+        100.. => ([hundreds, tens, ones], 3),
     }
+}
 
-    /// A line with " root:leaf" for each hung root.
-    fn line(&self, text: &mut Vec<u8>, head: &str, placing: &[u8]) {
-        text.extend_from_slice(head.as_bytes());
-        for (root, &leaf) in placing.iter().enumerate().filter(|(_, &leaf)| leaf != TOP) {
-            text.push(b' ');
-            text.extend_from_slice(self.0[root].as_bytes());
-            text.push(b':');
-            text.extend_from_slice(self.0[usize::from(leaf)].as_bytes());
-        }
-        text.push(b'\n');
+/// Those of every node, worked out once: a list writes some millions.
+static FIGURES: [([u8; 3], usize); 256] = {
+    let mut all = [([0; 3], 0); 256];
+    let mut number = 0;
+    while number < 256 {
+        all[number] = figures(number as u8);
+        number += 1;
     }
+    all
+};
+
+fn write_number(text: &mut Vec<u8>, number: u8) {
+    let (figures, length) = FIGURES[usize::from(number)];
+    text.extend_from_slice(&figures[..length]);
+}
+
+/// A line with " root:leaf" for each hung root.
+fn write_line(text: &mut Vec<u8>, head: &str, placing: &[u8]) {
+    text.extend_from_slice(head.as_bytes());
+    for (root, &leaf) in placing.iter().enumerate().filter(|(_, &leaf)| leaf != TOP) {
+        text.push(b' ');
+        write_number(text, root as u8);
+        text.push(b':');
+        write_number(text, leaf);
+    }
+    text.push(b'\n');
 }
 
 fn line(head: &str, placing: &[u8]) -> Vec<u8> {
     let mut text = Vec::new();
-    Figures::new().line(&mut text, head, placing);
+    write_line(&mut text, head, placing);
     text
 }
 
@@ -87,9 +104,8 @@ pub fn list(sheet: &[u8]) -> Answer {
     let listed = Place::start().fill(sheet, &mut out).map_err(|why| Failure::from(why.refusal()))? as u64;
     let count = if listed < LAST { Count::Exactly(listed) } else { bixtogan::count(sheet)? };
     let mut text = count_line(count).into_bytes();
-    let figures = Figures::new();
     for (k, placing) in (1..=listed).zip(out.chunks_exact(n)) {
-        figures.line(&mut text, &k.to_string(), placing);
+        write_line(&mut text, &k.to_string(), placing);
     }
     Ok(text)
 }
