@@ -18,6 +18,7 @@ use Rattle.theory_list.specs.Choosing.{Unforked, pairs}
 use Rattle.theory_list.proofs.Choosing.{pairs-le, choice-splits, first-grows, second-grows}
 use Rattle.theory_list.specs.Settled.{settled}
 use Rattle.theory_list.proofs.Readings.{reading-least}
+use Rattle.theory_list.specs.Redundancy.{Loopless}
 use Rattle.theory_list.specs.Keeping.{Fresh}
 use Rattle.theory_list.proofs.Keeping.{first-fresh, second-fresh}
 use Rattle.theory_list.specs.Guided.{Leads, arrived, to-first, to-second}
@@ -69,7 +70,7 @@ fits-adding {g} l r s f =
 module _ {g : Graph} {p : List ℕ} {t : Trees} {owners under : List ℕ} {k : ℕ} {sets : List ℕ} (st : Standing g p t owners under k sets) where
   onward : (l r : ℕ) {sets′ : List ℕ} → Fresh (st .graph) l r → Below (st .graph) p l r → pairs (st .graph) < pairs (adding (st .graph) l r)
       → ((q : List ℕ) → Leads (adding (st .graph) l r) p q → Leads (st .graph) p q)
-      → ((h : Graph) → Shaped h → TreesOf h t → Fresh h l r → Reduced h (t .n) sets → Reduced (adding h l r) (t .n) sets′)
+      → ((h : Graph) → Fits h t owners → Loopless h → Fresh h l r → Reduced h (t .n) sets → Reduced (adding h l r) (t .n) sets′)
       → Standing g p t owners under (k - 1) sets′
   onward l r new d grown way added =
       let h : Graph = st .graph in
@@ -82,7 +83,7 @@ module _ {g : Graph} {p : List ℕ} {t : Trees} {owners under : List ℕ} {k : �
           shaped = fits .shaped;
           loopless = solved-loopless f;
           nodes = fits .trees .nodes;
-          reduced = added h s (st .fits .trees) new (st .given .reduced);
+          reduced = added h (st .fits) (st .given .loopless) new (st .given .reduced);
         };
         fits = fits;
         solved = f;
@@ -92,7 +93,7 @@ module _ {g : Graph} {p : List ℕ} {t : Trees} {owners under : List ℕ} {k : �
       }
 
   pub turned : (v a b : ℕ) (e : Edge) {sets′ : List ℕ} → Choice (st .graph) v a b → HalfOf (st .graph) p a b e
-      → ((h : Graph) → Shaped h → TreesOf h t → Fresh h (e .leaf) (e .root) → Reduced h (t .n) sets → Reduced (adding h (e .leaf) (e .root)) (t .n) sets′)
+      → ((h : Graph) → Fits h t owners → Loopless h → Fresh h (e .leaf) (e .root) → Reduced h (t .n) sets → Reduced (adding h (e .leaf) (e .root)) (t .n) sets′)
       → Standing g p t owners under (k - 1) sets′
   turned v a b e c half added =
       let h : Graph = st .graph in
@@ -112,11 +113,12 @@ module _ {g : Graph} {p : List ℕ} {t : Trees} {owners under : List ℕ} {k : �
       (λ q y. to-second v a b c d (subst (λ (m : ℕ). Leads (adding h b m) p q) (i .1) (subst (λ (m : ℕ). Leads (adding h m r) p q) (i .0) y))) added)
       half
 
-  pub ended : Unforked (st .graph) → Arrived g p (t .n) sets
+  pub ended : Unforked (st .graph) → Arrived g p t sets
   ended o =
       record {
         graph = st .graph;
         given = st .given;
+        trees = st .fits .trees;
         leads = st .leads (settled (st .graph)) (arrived (st .given .loopless) o);
       }
 
@@ -134,7 +136,7 @@ leads-iff {g} {p} {q} x s f = (
   λ r. reading-least g s p q r (leads-solved x s) (leads-within x s f),
 )
 
-pub reads : {g : Graph} {p : List ℕ} {n : ℕ} {sets : List ℕ} (answer : Bool) (x : Arrived g p n sets)
+pub reads : {g : Graph} {p : List ℕ} {t : Trees} {sets : List ℕ} (answer : Bool) (x : Arrived g p t sets)
     → ((answer ≡ true) ↔ (settled (x .graph) ≡ p)) → Shaped g → SolvedForm g p → (answer ≡ true) ↔ Reading g p
 reads answer x e s f =
     let i = leads-iff (x .leads) s f in

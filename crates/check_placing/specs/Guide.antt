@@ -10,7 +10,7 @@ use Rattle.theory_list.specs.Choosing.{pairs}
 use Rattle.theory_list.specs.Guided.{Leads}
 use Rattle.theory_list.specs.Settled.{settled}
 use Rattle.base_tables.specs.Sets.{Rows}
-use Rattle.base_tables.specs.Trees.{Fits}
+use Rattle.base_tables.specs.Trees.{TreesOf, Fits}
 use Rattle.base_tables.specs.declared.trees.Trees.{Trees}
 use Rattle.solve_reduce.specs.Reduced.{LooplessForm}
 use Rattle.check_placing.specs.declared.guide.Edge.{Edge}
@@ -42,7 +42,8 @@ pub record Standing (g : Graph) (p : List ℕ) (t : Trees) (owners under : List 
   pub enough : t .n * t .n < turns + pairs graph
 
 -- No choice is left.
-pub record Arrived (g : Graph) (p : List ℕ) (n : ℕ) (sets : List ℕ) : Type 0 where
+pub record Arrived (g : Graph) (p : List ℕ) (t : Trees) (sets : List ℕ) : Type 0 where
   pub graph : Graph
-  pub given : LooplessForm graph n sets
+  pub given : LooplessForm graph (t .n) sets
+  pub trees : TreesOf graph t
   pub leads : Leads g p (settled graph)

@@ -4,6 +4,8 @@ use base_tables::sets::in_row;
 use base_tables::trees::Trees;
 use base_tables::trees::owners;
 use solve_closure::graph_rows;
+use solve_reduce::below::below;
+use solve_reduce::below::fragments;
 use solve_reduce::choose::Fork;
 use solve_reduce::choose::choose;
 use solve_reduce::reduced::WIDE;
@@ -15,7 +17,7 @@ ghost use mathlib.Core.Bool.{true, false};
 ghost use mathlib.Core.List.{List};
 ghost use mathlib.Core.Logic.{_↔_};
 ghost use Prim.Native.Nat.{ℕ, _-_, _*_, _+_, _≤_, _<_};
-ghost use lib.ListN.{length, take};
+ghost use lib.ListN.{length, getD, take};
 ghost use Rattle.graph.specs.Graph.{Graph};
 ghost use Rattle.graph.specs.Order.{Choice};
 ghost use Rattle.graph.specs.Placing.{Below, SolvedForm, Reading};
@@ -25,6 +27,7 @@ ghost use Rattle.base_tables.specs.Trees.{Parents, Bounded, TreesOf, Owners, Fi
 ghost use Rattle.base_tables.specs.Rows.{Long as Paired};
 ghost use Rattle.base_tables.specs.Sets.{Long, Rows};
 ghost use Rattle.base_tables.specs.Tables.{Tables};
+ghost use Rattle.solve_reduce.specs.Below.{Fragments};
 ghost use Rattle.solve_reduce.specs.Reduced.{Wide, LooplessForm};
 ghost use Rattle.check_placing.specs.Guide.{Owned, Within, HalfOf, Standing, Arrived};
 
@@ -57,19 +60,21 @@ fn half(owner: &[u8], under: &[u64], a: usize, b: usize) -> Edge
 }
 
 // One choice taken; no, where none is left.
-fn turn(owner: &[u8], trees: Trees, under: &[u64], sets: &mut [u64]) -> bool
-    requires { ⌜ Owners trees (now owner) × Long (now under) × Wide (now sets) ⌝ }
+fn turn(owner: &[u8], trees: Trees, fragment: &[u64], under: &[u64], sets: &mut [u64]) -> bool
+    requires { ⌜ Owners trees (now owner) × Long (now fragment) × Long (now under) × Wide (trees .n) (now sets) ⌝ }
+    requires { ⌜ Fragments (trees .n) (λ v. getD (now owner) v 0) (now fragment) ⌝ }
     ensures { λ r. ⌜
         ((g : Graph) (p : List ℕ) (k : ℕ) → Standing g p trees (now (owner .entry)) (now (under .entry)) k (now (sets .entry)) →
         (r ≡ true → Standing g p trees (now (owner .entry)) (now (under .entry)) (k - 1) (now (sets .exit)))
-        × (r ≡ false → Arrived g p (trees .n) (now (sets .exit))))
+        × (r ≡ false → Arrived g p trees (now (sets .exit))))
         ⌝ }
 {
     let Fork::At(v, a, b) = choose(sets, trees.n) else {
         return false;
     };
     let next = half(owner, under, a, b);
-    add(sets, trees, next.leaf, next.root);
+    let lower = below(sets, fragment, trees, next.root);
+    add(sets, owner, trees, next.leaf, next.root, lower);
     true
 }
 
@@ -87,18 +92,29 @@ fn same(a: &[u8], b: &[u8], n: usize) -> bool
 }
 
 // Where no choice is left: the placing is the one that is reached.
-fn settles(sets: &[u64], n: usize, placing: &[u8]) -> bool
-    requires { ⌜ Wide (now sets) × (n ≤ 128) × (n ≤ length (now placing)) ⌝ }
-    ensures { λ r. ⌜ ((h : Graph) → LooplessForm h n (now (sets .entry)) → (r ≡ true) ↔ (settled h ≡ take n (now (placing .entry)))) ⌝ }
+fn settles(sets: &[u64], trees: Trees, placing: &[u8]) -> bool
+    requires { ⌜ Wide (trees .n) (now sets) × Bounded trees × (trees .n ≤ length (now placing)) ⌝ }
+    ensures { λ r. ⌜
+        ((h : Graph) → TreesOf h trees → LooplessForm h (trees .n) (now (sets .entry)) →
+        (r ≡ true) ↔ (settled h ≡ take (trees .n) (now (placing .entry))))
+        ⌝ }
 {
     let mut end = [0u8; 128];
-    settle(sets, n, &mut end);
-    same(&end, placing, n)
+    settle(sets, trees, &mut end);
+    same(&end, placing, trees.n)
 }
 
 // From the reduced form of a graph to the end. Each choice adds a pair to the descent relation, so that n * n are enough.
-fn follow(owner: &[u8], trees: Trees, under: &[u64], placing: &[u8], sets: &mut [u64]) -> bool
-    requires { ⌜ Owners trees (now owner) × Long (now under) × (trees .n ≤ length (now placing)) × Wide (now sets) ⌝ }
+fn follow(
+    owner: &[u8],
+    trees: Trees,
+    fragment: &[u64],
+    under: &[u64],
+    placing: &[u8],
+    sets: &mut [u64],
+) -> bool
+    requires { ⌜ Owners trees (now owner) × Long (now under) × (trees .n ≤ length (now placing)) × Wide (trees .n) (now sets) ⌝ }
+    requires { ⌜ Long (now fragment) × Fragments (trees .n) (λ v. getD (now owner) v 0) (now fragment) ⌝ }
     ensures { λ r. ⌜
         ((g : Graph) → Standing g (take (trees .n) (now (placing .entry))) trees (now (owner .entry)) (now (under .entry)) (trees .n * trees .n + 1) (now (sets .entry)) →
         Shaped g → SolvedForm g (take (trees .n) (now (placing .entry))) → (r ≡ true) ↔ Reading g (take (trees .n) (now (placing .entry))))
@@ -107,8 +123,8 @@ fn follow(owner: &[u8], trees: Trees, under: &[u64], placing: &[u8], sets: &mut 
     let n = trees.n;
     let mut left = n * n + 1;
     while 0 < left {
-        if !turn(owner, trees, under, sets) {
-            return settles(sets, n, placing);
+        if !turn(owner, trees, fragment, under, sets) {
+            return settles(sets, trees, placing);
         }
         left -= 1;
     }
@@ -137,7 +153,9 @@ pub fn reading(
     owners(parent, n, &mut owner);
     let mut rows = [0u64; 256];
     graph_rows(parent, heads_low, heads_high, n, &mut rows);
+    let mut fragment = [0u64; 256];
+    fragments(&owner, trees, &mut fragment);
     let mut sets = [0u64; WIDE];
     reduce(&rows, trees, &mut sets);
-    follow(&owner, trees, under, placing, &mut sets)
+    follow(&owner, trees, &fragment, under, placing, &mut sets)
 }

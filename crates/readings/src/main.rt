@@ -87,6 +87,7 @@ fn print_readings(rows: &[u64], owner: &[u8], trees: Trees)
         last: 0,
         more: true,
         depth: at.depth,
+        open: at.open,
         kept: at.kept,
     };
     let mut placings = [0u8; PLACINGS];

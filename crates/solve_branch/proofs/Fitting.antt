@@ -12,9 +12,10 @@ use Rattle.graph.specs.Order.{Choice, adding}
 use Rattle.theory_edges.proofs.Ends.{leaf-below}
 use Rattle.theory_forest.specs.Shape.{Shaped}
 use Rattle.theory_list.proofs.Choosing.{lower-leaf, upper-leaf}
+use Rattle.theory_list.specs.Redundancy.{Loopless}
 use Rattle.theory_list.specs.Keeping.{Fresh}
 use Rattle.theory_list.proofs.Keeping.{first-fresh, second-fresh}
-use Rattle.base_tables.specs.Trees.{TreesOf, Fits}
+use Rattle.base_tables.specs.Trees.{Fits}
 use Rattle.base_tables.specs.declared.trees.Trees.{Trees}
 use Rattle.solve_reduce.specs.Reduced.{Reduced}
 use Rattle.theory_walk.specs.Walk.{Decision, first, graphAt, Valid}
@@ -36,12 +37,12 @@ at-reduction {g} {n} {sets} e r = subst (λ (m : ℕ). Reduced g m sets) e r
 -- an edge added
 
 pub edge-added : {g : Graph} (t : Trees) (owners : List ℕ) (upper lower : ℕ) {sets sets′ : List ℕ} → Fits g t owners → lower < t .n → Fresh g upper (own g lower)
-    → ((h : Graph) → Shaped h → TreesOf h t → Fresh h upper (getD owners lower 0) → Reduced h (t .n) sets → Reduced (adding h upper (getD owners lower 0)) (t .n) sets′)
+    → (Fits g t owners → Fresh g upper (getD owners lower 0) → Reduced g (t .n) sets → Reduced (adding g upper (getD owners lower 0)) (t .n) sets′)
     → Reduction g sets → Reduction (adding g upper (own g lower)) sets′
 unfolding adding
 edge-added {g} t owners upper lower {sets} {sets′} f hl new step r =
     let is : getD owners lower 0 ≡ own g lower = f .owners-are lower hl in
-    let x : Reduced (adding g upper (getD owners lower 0)) (t .n) sets′ = step g (f .shaped) (f .trees) (subst (λ (z : ℕ). Fresh g upper z) (sym is) new) (reduction-at (f .trees .nodes) r) in
+    let x : Reduced (adding g upper (getD owners lower 0)) (t .n) sets′ = step f (subst (λ (z : ℕ). Fresh g upper z) (sym is) new) (reduction-at (f .trees .nodes) r) in
     at-reduction (f .trees .nodes) (subst (λ (z : ℕ). Reduced (adding g upper z) (t .n) sets′) is x)
 
 -- the graph at the decisions
@@ -72,7 +73,8 @@ module _ (g : Graph) (t : Trees) (owners trail : List ℕ) (f : Fits g t owners)
 
   -- one edge more
   pub edge-taken : (k : ℕ) {sets sets′ : List ℕ} → Shaped (reached g trail k) → lowerAt trail k < t .n → Fresh (reached g trail k) (upperAt trail k) (own (reached g trail k) (lowerAt trail k))
-      → ((h : Graph) → Shaped h → TreesOf h t → Fresh h (upperAt trail k) (getD owners (lowerAt trail k) 0) → Reduced h (t .n) sets → Reduced (adding h (upperAt trail k) (getD owners (lowerAt trail k) 0)) (t .n) sets′)
+      → (Fits (reached g trail k) t owners → Fresh (reached g trail k) (upperAt trail k) (getD owners (lowerAt trail k) 0) → Reduced (reached g trail k) (t .n) sets
+      → Reduced (adding (reached g trail k) (upperAt trail k) (getD owners (lowerAt trail k) 0)) (t .n) sets′)
       → Reduction (reached g trail k) sets → Reduction (reached g trail (k + 1)) sets′
   edge-taken k s hl new step r =
       rw (graph-more trail g k) (edge-added t owners (upperAt trail k) (lowerAt trail k) (fits-in (decisions trail k) t owners s f) hl new step r)
@@ -119,6 +121,12 @@ module _ (g : Graph) (t : Trees) (owners trail : List ℕ) (f : Fits g t owners)
       let y = valid-fewer trail g (i + 1) k (omega arith) x in
       let p : Last g ds (decision (upperAt trail i) (lowerAt trail i)) = valid-popped g ds (decision (upperAt trail i) (lowerAt trail i)) (rw (decisions-more trail i) at y) in
       half-fresh (graphAt g ds) (graph-shaped (f .shaped) (p .before)) (upperAt trail i) (lowerAt trail i) (p .choice)
+
+  pub decision-loopless : (i k : ℕ) → i < k → Valid g (decisions trail k) → Loopless (reached g trail i)
+  decision-loopless i k h x =
+      let ds = decisions trail i in
+      let y = valid-fewer trail g (i + 1) k (omega arith) x in
+      valid-popped g ds (decision (upperAt trail i) (lowerAt trail i)) (rw (decisions-more trail i) at y) .loopless
 
   pub valid-shaped : (i k : ℕ) → i ≤ k → Valid g (decisions trail k) → Shaped (reached g trail i)
   valid-shaped i k h x = graph-shaped (f .shaped) (valid-fewer trail g i k h x)

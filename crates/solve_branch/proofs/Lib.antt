@@ -3,4 +3,4 @@ pub mod Stack
 pub mod Fitting
 pub mod Walks
 pub mod Dived
-pub mod Rows
+pub mod Ends

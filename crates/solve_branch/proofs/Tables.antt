@@ -1,6 +1,6 @@
 -- The table of decisions: one more entry, an entry written or turned, and what a decision adds.
 use Prim.Native.Nat.{ℕ, zero, suc, _+_, _*_, _≤_, _<_}
-use mathlib.Core.Path.{_≡_, refl, ap, subst, _∙_}
+use mathlib.Core.Path.{_≡_, refl, sym, ap, subst, _∙_}
 use mathlib.Core.List.{List, [], _∷_, _++_}
 use mathlib.Core.Bool.{true, false}
 use native.Mathlib.Numerals.{add-one}
@@ -14,7 +14,7 @@ use Rattle.graph.specs.Graph.{Graph, own}
 use Rattle.graph.specs.Order.{adding}
 use Rattle.theory_walk.specs.Walk.{first, second, half, graphAt, Valid}
 use Rattle.theory_walk.proofs.Decisions.{graph-pushed, valid-popped}
-use Rattle.solve_branch.specs.Decisions.{upperAt, lowerAt, decision, decisions, reached, Noted, Kept, written, turned}
+use Rattle.solve_branch.specs.Decisions.{upperAt, lowerAt, decision, decisions, opens, reached, Noted, Kept, written, turned}
 
 pub decision-first : (a b : ℕ) → a < b → decision a b ≡ first a b
 unfolding decision
@@ -74,6 +74,60 @@ decisions-same trail trail′ zero f = refl
 decisions-same trail trail′ (suc k) f =
     rw (f (2 * k) (omega arith), f (2 * k + 1) (omega arith), decisions-same trail trail′ k (λ i l. f i (omega arith)))
 
+-- how many are first halves
+
+module _ (trail : List ℕ) where
+  pub opens-none : opens trail 0 ≡ 0
+  unfolding opens
+  opens-none = refl
+
+  pub opens-first : (k : ℕ) → upperAt trail k < lowerAt trail k → opens trail (k + 1) ≡ opens trail k + 1
+  unfolding opens
+  opens-first k h = rw (add-one k, lt-ltb (upperAt trail k) (lowerAt trail k) h)
+
+  pub opens-second : (k : ℕ) → lowerAt trail k ≤ upperAt trail k → opens trail (k + 1) ≡ opens trail k
+  unfolding opens
+  opens-second k h = rw (add-one k, le-ltb (upperAt trail k) (lowerAt trail k) h) (omega arith)
+
+  opens-one : (k : ℕ) → (opens trail k ≤ opens trail (k + 1)) × (opens trail (k + 1) ≤ opens trail k + 1)
+  opens-one k =
+      by-bool (ltb (upperAt trail k) (lowerAt trail k))
+      (λ (e : ltb (upperAt trail k) (lowerAt trail k) ≡ true). let is = opens-first k (ltb-true (upperAt trail k) (lowerAt trail k) e) in (omega (arith, is), omega (arith, is)))
+      (λ (e : ltb (upperAt trail k) (lowerAt trail k) ≡ false). let is = opens-second k (ltb-false (upperAt trail k) (lowerAt trail k) e) in (omega (arith, is), omega (arith, is)))
+
+  pub opens-within : (k : ℕ) → opens trail k ≤ k
+  opens-within zero = omega (arith, opens-none)
+  opens-within (suc k) = let one : k + 1 ≡ suc k = add-one k in subst (λ (m : ℕ). opens trail m ≤ m) one (omega (arith, opens-within k, opens-one k))
+
+  opens-grow : (i j : ℕ) → i ≤ j → opens trail i ≤ opens trail j
+  opens-grow i zero h = let e : i ≡ 0 = omega arith in rw e (omega arith)
+  opens-grow i (suc j) h =
+      by-bool (ltb j i)
+      (λ (e : ltb j i ≡ true). let same : i ≡ suc j = omega (arith, ltb-true j i e) in rw same (omega arith))
+      (λ (e : ltb j i ≡ false).
+      let one : j + 1 ≡ suc j = add-one j in
+      subst (λ (m : ℕ). opens trail i ≤ opens trail m) one (omega (arith, opens-grow i j (ltb-false j i e), opens-one j)))
+
+  -- a level where a choice is open has a lower number than those after it
+  pub opens-before : (i j : ℕ) → i < j → upperAt trail i < lowerAt trail i → opens trail i < opens trail j
+  opens-before i j h less = omega (arith, opens-first i less, opens-grow (i + 1) j (omega arith))
+
+  pub opens-seconds : (i j : ℕ) → i ≤ j → ((k : ℕ) → i ≤ k → k < j → lowerAt trail k ≤ upperAt trail k) → opens trail i ≡ opens trail j
+  opens-seconds i zero h f = let e : i ≡ 0 = omega arith in rw e
+  opens-seconds i (suc j) h f =
+      by-bool (ltb j i)
+      (λ (e : ltb j i ≡ true). let same : i ≡ suc j = omega (arith, ltb-true j i e) in rw same)
+      (λ (e : ltb j i ≡ false).
+      let low : i ≤ j = ltb-false j i e in
+      let one : j + 1 ≡ suc j = add-one j in
+      opens-seconds i j low (λ k a b. f k a (omega arith)) ∙ sym (opens-second j (f j low (omega arith))) ∙ ap (opens trail) one)
+
+pub opens-same : (trail trail′ : List ℕ) (k : ℕ) → ((i : ℕ) → i < 2 * k → getD trail i 0 ≡ getD trail′ i 0) → opens trail k ≡ opens trail′ k
+unfolding opens
+opens-same trail trail′ zero f = refl
+opens-same trail trail′ (suc k) f =
+    rw (f (2 * k) (omega arith), f (2 * k + 1) (omega arith), opens-same trail trail′ k (λ i l. f i (omega arith)))
+
 pub kept-decisions : {depth : ℕ} {trail trail′ : List ℕ} → Kept depth trail trail′ → decisions trail′ depth ≡ decisions trail depth
 kept-decisions {depth} {trail} {trail′} kept = decisions-same trail′ trail depth (kept .same)
 
@@ -106,8 +160,11 @@ module _ (trail : List ℕ) (k upper lower : ℕ) where
 pub kept-all : (depth : ℕ) (trail : List ℕ) → Kept depth trail trail
 kept-all depth trail = record { same = λ i h. refl }
 
+pub kept-both : {m depth : ℕ} {trail trail′ trail″ : List ℕ} → m ≤ depth → Kept m trail trail′ → Kept depth trail′ trail″ → Kept m trail trail″
+kept-both h one two = record { same = λ i l. two .same i (omega arith) ∙ one .same i l }
+
 kept-written : {depth : ℕ} {trail trail′ : List ℕ} (at upper lower : ℕ) → depth ≤ at → Kept depth trail trail′ → Kept depth trail (written at upper lower trail′)
-kept-written {trail′ = trail′} at upper lower h kept = record { same = λ i l. written-kept trail′ at upper lower .same i (omega arith) ∙ kept .same i l }
+kept-written {trail′ = trail′} at upper lower h kept = kept-both h kept (written-kept trail′ at upper lower)
 
 pub kept-wrote : {depth : ℕ} {trail trail′ trail″ : List ℕ} (at upper lower : ℕ) → depth ≤ at → trail″ ≡ written at upper lower trail′ → Kept depth trail trail′ → Kept depth trail trail″
 kept-wrote {depth} {trail} {trail′} at upper lower h e kept = rw e (kept-written at upper lower h kept)
@@ -121,25 +178,7 @@ noted-written trail trail′ i a b e long ha hb =
       lower = omega (arith, hb, written-lower trail i a b long);
     })
 
--- a decision turned, and turned back
-turned-back : (trail trail′ : List ℕ) (last : ℕ) → 2 * last + 1 < length trail → 2 * last + 1 < length trail′ → Kept (last + 1) (turned last trail) trail′ → Kept (last + 1) trail (turned last trail′)
-turned-back trail trail′ last long long′ kept =
-    record {
-      same = λ i h.
-          by-bool (ltb i (2 * last))
-          (λ (e : ltb i (2 * last) ≡ true).
-          let less : i < 2 * last = ltb-true i (2 * last) e in
-          written-kept trail′ last (lowerAt trail′ last) (upperAt trail′ last) .same i less ∙ kept .same i h ∙ written-kept trail last (lowerAt trail last) (upperAt trail last) .same i less)
-          (λ (e : ltb i (2 * last) ≡ false).
-          by-bool (ltb (2 * last) i)
-          (λ (q : ltb (2 * last) i ≡ true).
-          let is : i ≡ 2 * last + 1 = omega (arith, ltb-true (2 * last) i q) in
-          rw is (written-lower trail′ last (lowerAt trail′ last) (upperAt trail′ last) long′ ∙ kept .same (2 * last) (omega arith) ∙ written-upper trail last (lowerAt trail last) (upperAt trail last) long))
-          (λ (q : ltb (2 * last) i ≡ false).
-          let is : i ≡ 2 * last = omega (arith, ltb-false i (2 * last) e, ltb-false (2 * last) i q) in
-          rw is (written-upper trail′ last (lowerAt trail′ last) (upperAt trail′ last) long′ ∙ kept .same (2 * last + 1) (omega arith) ∙ written-lower trail last (lowerAt trail last) (upperAt trail last) long)));
-    }
-
+-- a decision turned
 pub noted-turned : {n : ℕ} (trail trail′ : List ℕ) (last at : ℕ) → trail′ ≡ turned last trail → at ≡ last → Noted n trail last → Noted n trail′ at
 noted-turned {n} trail trail′ last at e is x =
     rw (e, is)
@@ -151,11 +190,6 @@ noted-turned {n} trail trail′ last at e is x =
 
 pub turn-kept : {trail trail′ : List ℕ} (last : ℕ) → trail′ ≡ turned last trail → Kept last trail trail′
 turn-kept {trail} last e = rw e (written-kept trail last (lowerAt trail last) (upperAt trail last))
-
--- turned, kept for a while, turned back
-pub back-turned : {trail trail₁ trail₂ trail₃ : List ℕ} (last depth : ℕ) → trail₁ ≡ turned last trail → trail₃ ≡ turned last trail₂ → depth ≡ last + 1 → Kept depth trail₁ trail₂ → 2 * last + 1 < length trail → 2 * last + 1 < length trail₂ → Kept (last + 1) trail trail₃
-back-turned {trail} {trail₁} {trail₂} last depth e e₃ is kept long long₂ =
-    rw e₃ (turned-back trail trail₂ last long long₂ (subst (λ (l : List ℕ). Kept (last + 1) l trail₂) e (subst (λ (d : ℕ). Kept d trail₁ trail₂) is kept)))
 
 -- decisions that stay are there still
 pub noted-kept : {n depth : ℕ} {trail trail′ : List ℕ} (i : ℕ) → Kept depth trail trail′ → length trail′ ≡ length trail → i < depth → Noted n trail i → Noted n trail′ i

@@ -25,6 +25,11 @@ unfoldable pub decisions : List ℕ → ℕ → List Decision
 decisions trail zero = []
 decisions trail (suc k) = decisions trail k ++ (decision (upperAt trail k) (lowerAt trail k) ∷ [])
 
+-- how many of the first k decisions are first halves
+unfoldable pub opens : List ℕ → ℕ → ℕ
+opens trail zero = 0
+opens trail (suc k) = opens trail k + cond (ltb (upperAt trail k) (lowerAt trail k)) 1 0
+
 -- the graph where they have led
 abbrev pub reached : Graph → List ℕ → ℕ → Graph
 reached g trail k = graphAt g (decisions trail k)

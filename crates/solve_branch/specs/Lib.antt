@@ -2,3 +2,4 @@ pub mod Decisions
 pub mod Levels
 pub mod States
 pub mod Dives
+pub mod Dead

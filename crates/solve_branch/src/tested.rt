@@ -1,95 +1,134 @@
-// Entering a half, and turning to the other, where a half is tested for a solved form before it is entered.
+// Back out of a graph with no reading, and the whole way down.
 use crate::dive::Dived;
-use crate::dive::swap;
+use crate::dive::back;
+use crate::dive::dive;
 use crate::dive::turn;
+use crate::levels::LEVELS;
 use crate::levels::Level;
-use crate::levels::down;
 use crate::levels::slot;
-use base_tables::rows::copy_first;
+use base_nodeset::NodeSet;
+use base_tables::sets::put_at;
+use base_tables::sets::set_at;
 use base_tables::trees::Trees;
-use solve_reduce::reduced::WIDE;
+use solve_reduce::below::under;
+use solve_reduce::reduced::width;
 use solve_test::solvable;
 ghost use mathlib.Core.Path.{_≡_};
 ghost use mathlib.Core.Bool.{true};
 ghost use mathlib.Core.Logic.{_↔_};
-ghost use Prim.Native.Nat.{ℕ, _+_, _%_, _<_};
-ghost use Rattle.graph.specs.Graph.{Graph};
-ghost use Rattle.graph.specs.Order.{Choice};
+ghost use Prim.Native.Nat.{ℕ, _*_, _%_, _≤_, _<_};
+ghost use lib.ListN.{length};
+ghost use Rattle.graph.specs.Graph.{Graph, own};
 ghost use Rattle.graph.specs.Placing.{Solvable};
-ghost use Rattle.base_tables.specs.Trees.{Owners, Fits};
-ghost use Rattle.solve_branch.specs.Decisions.{upperAt, lowerAt, reached, Noted, Kept};
-ghost use Rattle.solve_branch.specs.Levels.{Reduction, Stack, state};
-ghost use Rattle.solve_branch.specs.States.{Enters, Leaves};
-ghost use Rattle.solve_branch.specs.Dives.{Back, Opens};
+ghost use Rattle.theory_forest.specs.Shape.{Shaped};
+ghost use Rattle.base_tables.specs.Trees.{Bounded, TreesOf, Owners, Fits};
+ghost use Rattle.solve_reduce.specs.Below.{Fragments};
+ghost use Rattle.solve_reduce.specs.Reduced.{Under};
+ghost use Rattle.solve_test.specs.Tables.{Blank, EndRows};
+ghost use Rattle.solve_branch.specs.Decisions.{Noted, Room, Kept};
+ghost use Rattle.solve_branch.specs.Levels.{Stack, state};
+ghost use Rattle.solve_branch.specs.States.{Dives, Leaves, Diving};
+ghost use Rattle.solve_branch.specs.Dives.{EndRow, Opens, Arrives};
 
-// Whether a level's graph has a solved form.
-fn tested(owner: &[u8], trees: Trees, states: &[u64], depth: usize) -> bool
-    requires { ⌜ Owners trees (now owner) × Stack (now states) ⌝ }
+// Of a root or a leaf the nodes under it, and nothing of an inner node.
+fn end_row(sets: &[u64], fragments: &[u64], trees: Trees, u: usize) -> NodeSet
+    requires { ⌜ (2 * trees .n ≤ length (now sets)) × (2 * trees .n ≤ length (now fragments)) × Bounded trees × (u < trees .n) ⌝ }
     ensures { λ r. ⌜
-        ((g : Graph) → Fits g trees (now (owner .entry)) → Reduction g (state (depth % 32) (now (states .entry))) → (r ≡ true) ↔ Solvable g)
+        ((g : Graph) → Shaped g → TreesOf g trees → Fragments (trees .n) (own g) (now (fragments .entry)) → Under g (now (sets .entry)) → EndRow g u r)
         ⌝ }
 {
+    if trees.leaves.has(u) {
+        return set_at(sets, u);
+    }
+    if trees.roots.has(u) {
+        return under(sets, fragments, trees, u);
+    }
+    NodeSet::empty()
+}
+
+fn end_rows(sets: &[u64], fragments: &[u64], trees: Trees, rows: &mut [u64])
+    requires { ⌜ (2 * trees .n ≤ length (now sets)) × (2 * trees .n ≤ length (now fragments)) × Bounded trees × Blank (now rows) ⌝ }
+    ensures { λ _. ⌜
+        ((g : Graph) → Shaped g → TreesOf g trees → Fragments (trees .n) (own g) (now (fragments .entry)) → Under g (now (sets .entry)) →
+        EndRows g (now (rows .exit)))
+        ⌝ }
+{
+    for u in 0..trees.n {
+        put_at(rows, u, end_row(sets, fragments, trees, u));
+    }
+}
+
+// Whether a level's graph has a solved form.
+fn tested(owner: &[u8], trees: Trees, states: &[u64], opened: usize) -> bool
+    requires { ⌜ Owners trees (now owner) × Stack (trees .n) (now states) ⌝ }
+    ensures { λ r. ⌜
+        ((g : Graph) → Fits g trees (now (owner .entry)) → Fragments (trees .n) (own g) (state (trees .n) 33 (now (states .entry))) →
+        Under g (state (trees .n) (opened % 32) (now (states .entry))) → (r ≡ true) ↔ Solvable g)
+        ⌝ }
+{
+    let wide = width(trees.n);
+    let from = slot(trees.n, opened);
+    let last = wide * (LEVELS + 1);
     let mut rows = [0u64; 256];
-    let from = slot(depth);
-    copy_first(&states[from..from + WIDE], &mut rows, 2 * trees.n);
+    end_rows(
+        &states[from..from + wide],
+        &states[last..last + wide],
+        trees,
+        &mut rows,
+    );
     solvable(owner, trees, &rows)
 }
 
-// The half that is written down, or, if it has no solved form, the other.
-pub fn take_half(
+// Back from `deep` to the next half below the level `base` that has a solved form.
+fn leave(
     owner: &[u8],
     trees: Trees,
     states: &mut [u64],
     trail: &mut [u8],
-    at: Level,
-) -> Level
-    requires { ⌜ Owners trees (now owner) × Stack (now states) × Noted (trees .n) (now trail) (at .depth) ⌝ }
-    ensures { λ r. ⌜ Kept (at .depth) (now (trail .entry)) (now (trail .exit)) × (r .depth ≡ at .depth + 1) ⌝ }
+    deep: Level,
+    base: usize,
+) -> Dived
+    requires { ⌜ Owners trees (now owner) × Stack (trees .n) (now states) × ((i : ℕ) → i < deep .depth → Noted (trees .n) (now trail) i) × (base ≤ deep .depth) × (deep .open ≤ length (now trail)) ⌝ }
+    ensures { λ r. ⌜ Kept base (now (trail .entry)) (now (trail .exit)) ⌝ }
     ensures { λ r. ⌜
-        ((g : Graph) (k v : ℕ) → Fits g trees (now (owner .entry)) → Enters g (now (trail .entry)) (now (states .entry)) at k →
-        Choice (reached g (now (trail .entry)) (at .depth)) v (upperAt (now (trail .entry)) (at .depth)) (lowerAt (now (trail .entry)) (at .depth)) →
-        Enters g (now (trail .exit)) (now (states .exit)) r k)
+        ((g : Graph) (k : ℕ) → Fits g trees (now (owner .entry)) → Leaves g (now (trail .entry)) (now (states .entry)) deep (deep .depth) k →
+        Opens g (now (trail .exit)) (now (states .exit)) base k r)
         ⌝ }
 {
-    let last = at.depth;
-    let first = down(owner, trees, states, trail, at);
-    if tested(owner, trees, states, first.depth) {
-        return first;
+    let mut here = deep;
+    let mut top = deep.depth;
+    loop {
+        let left = back(trail, top);
+        if left <= base {
+            return Dived::Stuck(here);
+        }
+        top = left - 1;
+        here = turn(owner, trees, states, trail, here, top);
+        if tested(owner, trees, states, here.open) {
+            return Dived::To(here);
+        }
     }
-    swap(trail, last);
-    let again = Level {
-        depth: last,
-        kept: first.kept,
-    };
-    down(owner, trees, states, trail, again)
 }
 
-// The other half of the choice at a level, if it comes after the one taken and has a solved form. Else the decisions stay.
-pub fn other_half(
-    owner: &[u8],
-    trees: Trees,
-    states: &mut [u64],
-    trail: &mut [u8],
-    at: Level,
-) -> Dived
-    requires { ⌜ Owners trees (now owner) × Stack (now states) × ((i : ℕ) → i < at .depth + 1 → Noted (trees .n) (now trail) i) ⌝ }
-    ensures { λ r. ⌜ Back (at .depth) (now (trail .entry)) (now (trail .exit)) r ⌝ }
+// The next reading below a level, if there is one. Halves are tested only where a dive has led to none, and the first of them that
+// has a solved form has a reading below it.
+pub fn descend(owner: &[u8], trees: Trees, states: &mut [u64], trail: &mut [u8], at: Level) -> Dived
+    requires { ⌜ Diving trees (now owner) (now trail) (now states) at × Room (trees .n) (now trail) ⌝ }
+    ensures { λ r. ⌜ Kept (at .depth) (now (trail .entry)) (now (trail .exit)) ⌝ }
     ensures { λ r. ⌜
-        ((g : Graph) (k : ℕ) → Fits g trees (now (owner .entry)) → Leaves g (now (trail .entry)) (now (states .entry)) at k →
-        Opens g (now (trail .exit)) (now (states .exit)) k r)
+        ((g : Graph) (k : ℕ) → Fits g trees (now (owner .entry)) → Dives g (now (trail .entry)) (now (states .entry)) at k →
+        Arrives g (now (trail .exit)) (now (states .exit)) (at .depth) k r)
         ⌝ }
 {
-    let last = at.depth;
-    if trail[2 * last + 1] <= trail[2 * last] {
-        return Dived::Stuck(at);
+    let mut here = at;
+    loop {
+        let base = here.depth;
+        match dive(owner, trees, states, trail, here) {
+            Dived::To(reading) => return Dived::To(reading),
+            Dived::Stuck(deep) => match leave(owner, trees, states, trail, deep, base) {
+                Dived::To(half) => here = half,
+                Dived::Stuck(level) => return Dived::Stuck(level),
+            },
+        }
     }
-    let other = turn(owner, trees, states, trail, at, last);
-    if tested(owner, trees, states, other.depth) {
-        return Dived::To(other);
-    }
-    swap(trail, last);
-    Dived::Stuck(Level {
-        depth: last,
-        kept: other.kept,
-    })
 }

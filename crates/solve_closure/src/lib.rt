@@ -1,6 +1,5 @@
 // The closure of a graph's or a placing's edges as rows: of each node the set of nodes under it, in a lent table of 128 sets.
-// An edge is added to closed rows, of which there may be more, in one pass over one column of them and one over the rows that
-// it extends.
+// An edge is added to closed rows in one pass over one column of them and one over the rows that it extends.
 use base_nodeset::NodeSet;
 use base_nodeset::Popped;
 use base_tables::rows;
@@ -69,7 +68,7 @@ fn columns(rows: &[u64], n: usize, odd: usize, k: usize) -> NodeSet
 }
 
 // a, and the nodes whose rows have a.
-fn rising(rows: &[u64], n: usize, a: usize) -> NodeSet
+pub fn rising(rows: &[u64], n: usize, a: usize) -> NodeSet
     requires { ⌜ (2 * n ≤ length (now rows)) × (n ≤ 128) × (a < n) ⌝ }
     ensures { λ r. ⌜ Rising n a (now (rows .entry)) r ⌝ }
 {
@@ -81,7 +80,7 @@ fn rising(rows: &[u64], n: usize, a: usize) -> NodeSet
 }
 
 // `more`, joined into the row of each member of the set.
-fn join(rows: &mut [u64], set: NodeSet, more: NodeSet)
+pub fn join(rows: &mut [u64], set: NodeSet, more: NodeSet)
     requires { ⌜ ((x : ℕ) → mem set x ≡ true → 2 * x + 1 < length (now rows)) ⌝ }
     ensures { λ _. ⌜ Joined (mem set) (mem more) (now (rows .entry)) (now (rows .exit)) ⌝ }
 {
@@ -96,17 +95,14 @@ fn join(rows: &mut [u64], set: NodeSet, more: NodeSet)
     }
 }
 
-// The edge from a to r, added to closed rows; the nodes whose rows it adds to. Row r is taken before any row changes, so
-// cycles do no harm.
-pub fn add_edge(rows: &mut [u64], n: usize, a: usize, r: usize) -> NodeSet
+// The edge from a to r, added to closed rows. Row r is taken before any row changes, so cycles do no harm.
+fn add_edge(rows: &mut [u64], n: usize, a: usize, r: usize)
     requires { ⌜ (2 * n ≤ length (now rows)) × (n ≤ 128) × (a < n) × (2 * r + 1 < length (now rows)) × (r < 128) ⌝ }
     ensures { λ _. ⌜ Extended n a r (now (rows .entry)) (now (rows .exit)) ⌝ }
-    ensures { λ over. ⌜ Rising n a (now (rows .entry)) over ⌝ }
 {
     let more = set_at(rows, r).with(r);
     let over = rising(rows, n, a);
     join(rows, over, more);
-    over
 }
 
 fn clear(rows: &mut [u64])

@@ -1,6 +1,6 @@
 -- The choice, from the leaves whose edges to a root stay: a root has two of them where there is a second, and those roots are the
 -- forks.
-use Prim.Native.Nat.{ℕ, _+_, _≤_, _<_}
+use Prim.Native.Nat.{ℕ, _≤_, _<_}
 use mathlib.Core.Path.{_≡_, sym, ap, subst, _∙_}
 use mathlib.Core.List.{List}
 use mathlib.Core.Bool.{Bool, true, false, not, _&&_}
@@ -14,8 +14,9 @@ use Rattle.base_finite.proofs.Laws.{by-bool, and-both, and-false, least-none, l
 use Rattle.base_finite.proofs.Bounds.{least-ext}
 use Rattle.base_nodeset.specs.Set.{mem, Empty, Lowest}
 use Rattle.base_nodeset.specs.declared.NodeSet.{NodeSet}
-use Rattle.graph.specs.Graph.{Graph}
+use Rattle.graph.specs.Graph.{Graph, root}
 use Rattle.graph.specs.Order.{Kept, Choice}
+use Rattle.theory_edges.proofs.Ends.{root-below}
 use Rattle.theory_list.proofs.Redundancy.{kept-within}
 use Rattle.theory_list.specs.Choosing.{Unforked}
 use Rattle.base_tables.specs.Sets.{inRow}
@@ -62,14 +63,14 @@ lowest-below s b is some = lowest-less (mem s) b is some
 module _ (g : Graph) (n : ℕ) (sets : List ℕ) (is : LooplessForm g n sets) where
   -- the leaves whose edges to v stay
   abbrev leaves : ℕ → ℕ → Bool
-  leaves v l = inRow sets (n + v) l
+  leaves v l = inRow sets v l
 
-  module _ (v : ℕ) (within : v < n) where
+  module _ (v : ℕ) (is-root : root g v ≡ true) where
     in-leaves : (l : ℕ) → Kept g l v → leaves v l ≡ true
-    in-leaves l k = is .reduced .edges (is .loopless) v l within .1 k
+    in-leaves l k = is .reduced .edges (is .loopless) v l is-root .1 k
 
     leaves-in : (l : ℕ) → leaves v l ≡ true → Kept g l v
-    leaves-in l m = is .reduced .edges (is .loopless) v l within .0 m
+    leaves-in l m = is .reduced .edges (is .loopless) v l is-root .0 m
 
     small : (l : ℕ) → Kept g l v → (l < n) × (l < 128)
     small l k =
@@ -89,34 +90,44 @@ module _ (g : Graph) (n : ℕ) (sets : List ℕ) (is : LooplessForm g n sets) wh
     one-leaf : several (leaves v) ≡ false → (l m : ℕ) → Kept g l v → Kept g m v → l ≡ m
     one-leaf one l m k j = only-lowest one l k ∙ sym (only-lowest one m j)
 
-  module _ (forks : NodeSet) (are : (w : ℕ) → mem forks w ≡ inRow sets (n + n) w) (v : ℕ) (lowest : v ≡ least 128 (mem forks)) where
-    -- no root below v has two leaves
-    below-v : (w l m : ℕ) → w < n → w < v → Kept g l w → Kept g m w → l ≡ m
-    below-v w l m small-w less k j =
-        one-leaf w small-w (sym (is .reduced .forks w small-w) ∙ sym (are w) ∙ least-below 128 (mem forks) w (omega arith)) l m k j
+  module _ (forks : NodeSet) (are : (w : ℕ) → mem forks w ≡ inRow sets n w) (v : ℕ) (lowest : v ≡ least 128 (mem forks)) where
+    -- an edge that stays goes to a root
+    kept-root : (w l : ℕ) → Kept g l w → root g w ≡ true
+    kept-root w l k = is .shaped .leaf-to-root l w (k .0) .1
 
-    kept-below : (w l : ℕ) → Kept g l w → w < n
-    kept-below w l k = omega (arith, kept-within g (is .shaped) l w k .1, is .nodes)
+    -- no root below v has two leaves
+    below-v : (w l m : ℕ) → w < v → Kept g l w → Kept g m w → l ≡ m
+    below-v w l m less k j =
+        let is-root : root g w ≡ true = kept-root w l k in
+        let one : several (leaves w) ≡ false = sym (is .reduced .forks w ∙ rw is-root) ∙ sym (are w) ∙ least-below 128 (mem forks) w (omega arith) in
+        one-leaf w is-root one l m k j
+
+    few : n ≤ 128
+    few = omega (arith, is .nodes, is .shaped .few-nodes)
 
     pub unforked : n ≤ v → Unforked g
-    unforked all w l m k j = let h : w < n = kept-below w l k in below-v w l m h (omega arith) k j
+    unforked all w l m k j = below-v w l m (omega (arith, root-below g w (kept-root w l k), is .nodes)) k j
 
     module _ (within : v < n) (from : NodeSet) (from-are : (l : ℕ) → mem from l ≡ leaves v l) (b : ℕ) (b-is : b ≡ secondLowest (mem from)) where
       b-second : b ≡ secondLowest (leaves v)
       b-second = b-is ∙ second-ext (mem from) (leaves v) from-are
 
-      few : n ≤ 128
-      few = omega (arith, is .nodes, is .shaped .few-nodes)
+      v-parts : (root g v ≡ true) × (several (leaves v) ≡ true)
+      v-parts =
+          let found : least 128 (mem forks) < 128 = omega (arith, few) in
+          let in-forks : mem forks v ≡ true = subst (λ (z : ℕ). mem forks z ≡ true) (sym lowest) (least-holds 128 (mem forks) found) in
+          and-both (root g v) (several (leaves v)) (sym (is .reduced .forks v) ∙ sym (are v) ∙ in-forks)
+
+      is-fork : root g v ≡ true
+      is-fork = v-parts .0
 
       there : b < 128
       there =
-          let found : least 128 (mem forks) < 128 = omega (arith, few) in
-          let in-forks : mem forks v ≡ true = subst (λ (z : ℕ). mem forks z ≡ true) (sym lowest) (least-holds 128 (mem forks) found) in
-          let h : secondLowest (leaves v) < 128 = ltb-true (secondLowest (leaves v)) 128 (sym (is .reduced .forks v within) ∙ sym (are v) ∙ in-forks) in
+          let h : secondLowest (leaves v) < 128 = ltb-true (secondLowest (leaves v)) 128 (v-parts .1) in
           omega (arith, b-second)
 
       pub second-there : n ≤ b → ⊥
-      second-there h = omega (arith, small v within b (leaves-in v within b (b-parts (leaves v) b b-second there .1)) .0)
+      second-there h = omega (arith, small v is-fork b (leaves-in v is-fork b (b-parts (leaves v) b b-second there .1)) .0)
 
       pub chosen : (a : ℕ) → a ≡ least 128 (mem from) → Choice g v a b
       chosen a i =
@@ -125,14 +136,14 @@ module _ (g : Graph) (n : ℕ) (sets : List ℕ) (is : LooplessForm g n sets) wh
           let less : least 128 (leaves v) < b = lowest-less (leaves v) b b-second there in
           let found : least 128 (leaves v) < 128 = omega (arith, there) in
           record {
-            first = leaves-in v within a (subst (λ (z : ℕ). leaves v z ≡ true) (sym e) (least-holds 128 (leaves v) found));
-            second = leaves-in v within b (b-parts (leaves v) b b-second there .1);
+            first = leaves-in v is-fork a (subst (λ (z : ℕ). leaves v z ≡ true) (sym e) (least-holds 128 (leaves v) found));
+            second = leaves-in v is-fork b (b-parts (leaves v) b b-second there .1);
             lower = omega arith;
             lowest-leaves = λ l k.
                 by-bool (eqb l a)
                 (λ (t : eqb l a ≡ true). inl (eqb-true l a t))
                 (λ (t : eqb l a ≡ false).
-                let up : b ≤ l = omega (arith, another v within l k (λ q. eqb-false l a t (q ∙ sym e)), b-second) in
+                let up : b ≤ l = omega (arith, another v is-fork l k (λ q. eqb-false l a t (q ∙ sym e)), b-second) in
                 ⊎-elim (λ (q : b ≡ l). inr (inl (sym q))) (λ (q : b < l). inr (inr q)) (eq-or-lt-of-le up));
-            lowest-root = λ w l m less-w k j. below-v w l m (omega arith) less-w k j;
+            lowest-root = λ w l m less-w k j. below-v w l m less-w k j;
           }

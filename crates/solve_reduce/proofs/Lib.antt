@@ -2,4 +2,6 @@ pub mod Staying
 pub mod Choices
 pub mod Settling
 pub mod Tables
+pub mod Roots
+pub mod Rises
 pub mod Found

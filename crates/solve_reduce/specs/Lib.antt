@@ -1,3 +1,4 @@
 pub mod Reduced
 pub mod Staying
+pub mod Below
 pub mod Chosen

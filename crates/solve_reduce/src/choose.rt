@@ -13,15 +13,15 @@ pub enum Fork {
 
 // (v, a, b) of the choice. The test of b is for the bounds alone: a fork has its two leaves.
 pub fn choose(sets: &[u64], n: usize) -> Fork
-    requires { ⌜ Wide (now sets) × (n ≤ 128) ⌝ }
+    requires { ⌜ Wide n (now sets) × (n ≤ 128) ⌝ }
     ensures { λ r. ⌜ Bounded n r ⌝ }
     ensures { λ r. ⌜ ((g : Graph) → LooplessForm g n (now (sets .entry)) → Chosen g r) ⌝ }
 {
-    let v = set_at(sets, n + n).lowest();
+    let v = set_at(sets, n).lowest();
     if n <= v {
         return Fork::None;
     }
-    let from = set_at(sets, n + v);
+    let from = set_at(sets, v);
     let b = second_lowest(from);
     if n <= b {
         return Fork::None;

@@ -16,6 +16,8 @@ use Rattle.base_tables.specs.Trees.{Parents, TreeOf, Filled, Bounded, TreesOf, 
 use Rattle.base_tables.specs.declared.trees.Trees.{Trees}
 use Rattle.base_tables.specs.Tables.{SheetTables}
 use Rattle.base_tables.proofs.TreeLaws.{tree-of, tables-parents, own-is}
+use Rattle.solve_test.specs.Tables.{EndRows}
+use Rattle.solve_test.proofs.Solved.{end-rows}
 use Rattle.solve_start.specs.Started.{Started}
 
 module _ {n : ℕ} {parents heads-low heads-high : List ℕ} (s : SheetTables n parents heads-low heads-high) where
@@ -45,10 +47,10 @@ module _ {n : ℕ} {parents heads-low heads-high : List ℕ} (s : SheetTables n 
         }
 
     pub started : ((g : Graph) → Shaped g → TreeOf g n parents → TreesOf g t) → {rows : List ℕ} → Rows (Descent (s .graph)) rows → (b : Bool)
-        → ((g : Graph) → Fits g t owners → Rows (Descent g) rows → (b ≡ true) ↔ Solvable g) → Started (s .graph) owners rows (record { solvable = b; trees = t })
+        → ((g : Graph) → Fits g t owners → EndRows g rows → (b ≡ true) ↔ Solvable g) → Started (s .graph) owners rows (record { solvable = b; trees = t })
     started trees rows b tests =
         let f = fits trees in
-        let is = tests (s .graph) f rows in
+        let is = tests (s .graph) f (end-rows (s .graph) rows) in
         record {
           solved = λ e. record { sheet = record { walked = record { graph = s .graph; table = owned; fits = f }; solvable = is .0 e; rows-are = rows }; is = refl };
           unsolved = λ e x. true≢false (sym (is .1 x) ∙ e);

@@ -13,13 +13,13 @@ use Rattle.theory_list.specs.Readings.{listed}
 use Rattle.theory_list.specs.Settled.{settled}
 use Rattle.solve_reduce.specs.Reduced.{LooplessForm}
 use Rattle.theory_walk.proofs.States.{at-below, at-entry}
-use Rattle.base_tables.specs.Trees.{Fits}
+use Rattle.base_tables.specs.Trees.{TreesOf, Fits}
 use Rattle.base_tables.specs.declared.trees.Trees.{Trees}
 use Rattle.solve_branch.specs.Decisions.{reached}
 use Rattle.solve_branch.specs.Levels.{state}
 use Rattle.solve_branch.specs.States.{Stands}
 use Rattle.solve_branch.specs.declared.levels.Level.{Level}
-use Rattle.solve_branch.proofs.Walks.{stands-form}
+use Rattle.solve_branch.proofs.Walks.{stands-form, stands-trees}
 use Rattle.solve_numbered.proofs.Numbers.{reached-at, reached-only}
 use Rattle.base_finite.specs.Stores.{joined}
 use Rattle.solve_numbered.specs.Numbered.{Reaches}
@@ -115,7 +115,7 @@ handed-none g passed old =
 
 module _ {g : Graph} {t : Trees} {owners : List ℕ} (f : Fits g t owners) {trail states : List ℕ} {at : Level} {last : ℕ} (x : Stands g trail states at last) where
   pub handed-more : (passed : ℕ) (old now₁ : List ℕ) (end : ℕ) (new : List ℕ) → end + t .n ≤ length now₁ → length new ≡ length now₁ → drop (end + t .n) new ≡ drop (end + t .n) now₁
-      → ((h : Graph) → LooplessForm h (t .n) (state (at .depth % 32) states) → take (end + t .n) new ≡ take end now₁ ++ settled h)
+      → ((h : Graph) → TreesOf h t → LooplessForm h (t .n) (state (t .n) (at .open % 32) states) → take (end + t .n) new ≡ take end now₁ ++ settled h)
       → Handed g passed old last end now₁ → Handed g passed old (last + 1) (end + t .n) new
   handed-more passed old now₁ end new room same kept wrote h =
       record {
@@ -123,7 +123,7 @@ module _ {g : Graph} {t : Trees} {owners : List ℕ} (f : Fits g t owners) {trai
         fits = omega (arith, h .long);
         long = same ∙ h .long;
         bytes =
-            wrote (reached g trail (at .depth)) (stands-form f x)
+            wrote (reached g trail (at .depth)) (stands-trees f x) (stands-form f x)
             ∙ rw (h .bytes, sym (at-entry (x .reading))) (sym (placings-more (listed g) passed last (h .from) (at-below (x .reading))));
         rest = kept ∙ sym (drop-drop (t .n) end now₁) ∙ ap (drop (t .n)) (h .rest) ∙ drop-drop (t .n) end old;
       }
@@ -149,12 +149,15 @@ pub past-limit : (g : Graph) (passed : ℕ) (old : List ℕ) → limit ≤ passe
 past-limit g passed old h = inl (omega (arith, h), refl, refl)
 
 module _ (g : Graph) (trail states : List ℕ) (passed : ℕ) {r : Reached} (x : Reaches g trail states (passed + 1) r) where
-  pub none-left : {all : ℕ} → r ≡ Only all → (old : List ℕ) → StretchOf g passed old passed old
-  none-left e old =
+  pub none-left : {all : ℕ} → r ≡ Only all → min (length (listed g)) limit ≤ passed
+  none-left e =
       let y = reached-only g trail states (passed + 1) x e in
-      inl (omega (arith, y .0, y .1), refl, refl)
+      omega (arith, y .0, y .1)
 
   pub next-stands : {at : Level} → r ≡ At at → Stands g trail states at passed
   next-stands {at} e =
       let same : passed + 1 - 1 ≡ passed = omega arith in
       subst (λ (k : ℕ). Stands g trail states at k) same (reached-at g trail states (passed + 1) x e)
+
+pub from-passed : {g : Graph} {p q last : ℕ} {old new : List ℕ} → p ≡ q → StretchOf g p old last new → StretchOf g q old last new
+from-passed {g} {last = last} {old} {new} e x = subst (λ (k : ℕ). StretchOf g k old last new) e x

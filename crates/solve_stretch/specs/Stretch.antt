@@ -19,9 +19,14 @@ placings ps passed last = joined (take (last - passed) (drop passed ps))
 
 -- where the walk is
 abbrev pub levelOf : Stop → Level
-levelOf r = record { depth = r .depth; kept = r .kept }
+levelOf r = record { depth = r .depth; «open» = r .open; kept = r .kept }
 
--- the walk stands at the next reading, or there is none, or none with a number
+-- the walk stands at the next reading, or there is none with a number
+pub record Next (g : Graph) (trail states : List ℕ) (r : Stop) : Type 0 where
+  pub on : r .more ≡ true → Stands g trail states (levelOf r) (r .last)
+  pub none : r .more ≡ false → min (length (listed g)) limit ≤ r .last
+
+-- the same, and where there is none the last one passed is the last
 pub record Goes (g : Graph) (trail states : List ℕ) (r : Stop) : Type 0 where
   pub on : r .more ≡ true → Stands g trail states (levelOf r) (r .last)
   pub ended : r .more ≡ false → r .last ≡ min (length (listed g)) limit

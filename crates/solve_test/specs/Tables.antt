@@ -8,6 +8,8 @@ use lib.Dec.{eqb}
 use lib.ListN.{length, getD}
 use Rattle.base_nodeset.specs.Set.{mem}
 use Rattle.base_nodeset.specs.declared.NodeSet.{NodeSet}
+use Rattle.graph.specs.Graph.{Graph, Descent, root, leaf}
+use Rattle.base_tables.specs.Rows.{Closed}
 use Rattle.base_tables.specs.Sets.{Long, inRow}
 
 -- rows with nothing in them
@@ -44,3 +46,12 @@ pub record NearRows (below : ℕ → ℕ → Bool) (roots : ℕ → Bool) (rows 
 
 abbrev pub Symmetric : (ℕ → ℕ → Bool) → Type 0
 Symmetric near = (f h : ℕ) → near f h ≡ true → near h f ≡ true
+
+-- a root or a leaf
+abbrev pub End : Graph → ℕ → Type 0
+End g u = (root g u ≡ true) ⊎ (leaf g u ≡ true)
+
+-- closed rows that hold the descent relation at the roots and the leaves; of inner nodes they may say less
+pub record EndRows (g : Graph) (rows : List ℕ) : Type 0 where
+  pub closed : Closed (inRow rows)
+  pub row-is : (u v : ℕ) → End g u → (inRow rows u v ≡ true) ↔ Descent g u v

@@ -10,15 +10,16 @@ use tables::near_rows;
 ghost use mathlib.Core.Path.{_≡_};
 ghost use mathlib.Core.Bool.{true};
 ghost use mathlib.Core.Logic.{_↔_};
-ghost use Rattle.graph.specs.Graph.{Graph, Descent};
+ghost use Rattle.graph.specs.Graph.{Graph};
 ghost use Rattle.graph.specs.Placing.{Solvable};
-ghost use Rattle.base_tables.specs.Sets.{Long, Rows};
+ghost use Rattle.base_tables.specs.Sets.{Long};
 ghost use Rattle.base_tables.specs.Trees.{Owners, Fits};
+ghost use Rattle.solve_test.specs.Tables.{EndRows};
 
-// The answer is that of every graph whose trees and owners these are and whose descent relation the rows are.
+// The answer is that of every graph whose trees and owners these are and whose descent relation the rows have.
 pub fn solvable(owner: &[u8], trees: Trees, rows: &[u64]) -> bool
     requires { ⌜ Owners trees (now owner) × Long (now rows) ⌝ }
-    ensures { λ r. ⌜ ((g : Graph) → Fits g trees (now (owner .entry)) → Rows (Descent g) (now (rows .entry)) → (r ≡ true) ↔ Solvable g) ⌝ }
+    ensures { λ r. ⌜ ((g : Graph) → Fits g trees (now (owner .entry)) → EndRows g (now (rows .entry)) → (r ≡ true) ↔ Solvable g) ⌝ }
 {
     let roots = trees.roots;
     let leaves = trees.leaves;

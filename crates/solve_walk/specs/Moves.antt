@@ -7,12 +7,7 @@ use Rattle.graph.specs.Graph.{Graph}
 use Rattle.theory_list.specs.Readings.{listed}
 use Rattle.solve_walk.specs.declared.steps.Moved.{Moved}
 use Rattle.solve_walk.specs.declared.steps.Moved.the-variants.{To, End}
-use Rattle.solve_branch.specs.States.{Enters, Stands}
-
--- out of the half that the walk was in
-abbrev pub Left : Graph → List ℕ → List ℕ → ℕ → Moved → Type 0
-Left g trail states k (To at) = Enters g trail states at k
-Left g trail states k End = length (listed g) ≡ k
+use Rattle.solve_branch.specs.States.{Stands}
 
 -- to a reading, or past the last
 abbrev pub Moves : Graph → List ℕ → List ℕ → ℕ → Moved → Type 0

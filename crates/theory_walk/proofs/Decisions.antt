@@ -1,6 +1,6 @@
 -- The decisions of a walk: what pushing one at the end of the list and popping it again does, and what holds of the graph
--- at valid decisions. It is a dominance graph with the same nodes and tree edges, it has a solved form, and its descent
--- relation has at least one pair more for each decision; so there are at most as many decisions as pairs of nodes.
+-- at valid decisions. It is a dominance graph with the same nodes and tree edges, and its descent relation has at least one
+-- pair more for each decision; so there are at most as many decisions as pairs of nodes.
 use Prim.Native.Nat.{ℕ, _+_, _*_, _≤_, _<_}
 use mathlib.Core.Path.{_≡_, refl, subst, _∙_}
 use mathlib.Core.List.{List, [], _∷_, _++_}
@@ -8,13 +8,12 @@ use native.Mathlib.Omega.{arith}
 use lib.ListN.{length}
 use Rattle.graph.specs.Graph.{Graph, own, root, leaf}
 use Rattle.graph.specs.Order.{Choice}
-use Rattle.graph.specs.Placing.{Solvable}
 use Rattle.theory_forest.specs.Shape.{Shaped}
 use Rattle.theory_list.specs.Redundancy.{Loopless}
 use Rattle.theory_list.proofs.Choosing.{pairs-le}
 use Rattle.theory_list.specs.Choosing.{pairs}
 use Rattle.theory_walk.specs.Walk.{Decision, half, graphAt, Valid, outset, taken, first, second}
-use Rattle.theory_walk.proofs.Halves.{solvable-loopless, half-nodes, half-tree, half-solvable, half-shaped, half-grows}
+use Rattle.theory_walk.proofs.Halves.{half-nodes, half-tree, half-shaped, half-grows}
 
 -- the graph at the decisions
 
@@ -47,44 +46,44 @@ graph-leaf g ds v = rw (graph-nodes g ds, graph-tree g ds)
 
 -- pushing and popping
 
-pub valid-pushed : {g : Graph} {ds : List Decision} → Valid g ds → {v : ℕ} (d : Decision) → Choice (graphAt g ds) v (d .0) (d .1) → Solvable (half (graphAt g ds) d) → Valid g (ds ++ (d ∷ []))
+pub valid-pushed : {g : Graph} {ds : List Decision} → Valid g ds → {v : ℕ} (d : Decision) → Choice (graphAt g ds) v (d .0) (d .1) → Loopless (graphAt g ds) → Valid g (ds ++ (d ∷ []))
 unfolding graphAt
-valid-pushed outset {v} d c f = taken v d c f outset
-valid-pushed (taken w e b h x) d c f = taken w e b h (valid-pushed x d c f)
+valid-pushed outset {v} d c n = taken v d c n outset
+valid-pushed (taken w e b m x) d c n = taken w e b m (valid-pushed x d c n)
 
 -- the last decision, and those before it
 pub record Last (g : Graph) (ds : List Decision) (d : Decision) : Type 0 where
   pub before : Valid g ds
   pub choice-root : ℕ
   pub choice : Choice (graphAt g ds) choice-root (d .0) (d .1)
-  pub solvable : Solvable (half (graphAt g ds) d)
+  pub loopless : Loopless (graphAt g ds)
 
 pub valid-popped : (g : Graph) (ds : List Decision) (d : Decision) → Valid g (ds ++ (d ∷ [])) → Last g ds d
 unfolding graphAt
-valid-popped g [] d (taken v e c f x) = record { before = outset; choice-root = v; choice = c; solvable = f }
-valid-popped g (e ∷ ds) d (taken v e₂ c f x) =
+valid-popped g [] d (taken v e c n x) = record { before = outset; choice-root = v; choice = c; loopless = n }
+valid-popped g (e ∷ ds) d (taken v e₂ c n x) =
     let l = valid-popped (half g e) ds d x in
-    record { before = taken v e c f (l .before); choice-root = l .choice-root; choice = l .choice; solvable = l .solvable }
+    record { before = taken v e c n (l .before); choice-root = l .choice-root; choice = l .choice; loopless = l .loopless }
 
 -- the other half of the last choice
-pub valid-turned : {g : Graph} (ds : List Decision) (a b : ℕ) → Valid g (ds ++ (first a b ∷ [])) → Solvable (half (graphAt g ds) (second a b)) → Valid g (ds ++ (second a b ∷ []))
-valid-turned {g} ds a b x f =
+pub valid-turned : {g : Graph} (ds : List Decision) (a b : ℕ) → Valid g (ds ++ (first a b ∷ [])) → Valid g (ds ++ (second a b ∷ []))
+valid-turned {g} ds a b x =
     let l = valid-popped g ds (first a b) x in
-    valid-pushed (l .before) (second a b) (l .choice) f
+    valid-pushed (l .before) (second a b) (l .choice) (l .loopless)
 
 -- what holds of the graph at valid decisions
 
 pub graph-shaped : {g : Graph} {ds : List Decision} → Shaped g → Valid g ds → Shaped (graphAt g ds)
 unfolding graphAt
 graph-shaped s outset = s
-graph-shaped s (taken {g = g} v d c f x) = graph-shaped (half-shaped g s d c) x
+graph-shaped s (taken {g = g} v d c n x) = graph-shaped (half-shaped g s d c) x
 
 -- each decision adds a pair
 pub pairs-grown : {g : Graph} {ds : List Decision} → Shaped g → Valid g ds → pairs g + length ds ≤ pairs (graphAt g ds)
 unfolding graphAt
 pairs-grown s outset = omega arith
-pairs-grown s (taken {g = g} {ds = ds} v d c f x) =
-    let here : pairs g < pairs (half g d) = half-grows g s d c (solvable-loopless (half-solvable g d f)) in
+pairs-grown s (taken {g = g} {ds = ds} v d c n x) =
+    let here : pairs g < pairs (half g d) = half-grows g s d c n in
     let there : pairs (half g d) + length ds ≤ pairs (graphAt (half g d) ds) = pairs-grown (half-shaped g s d c) x in
     omega arith
 

@@ -1,19 +1,18 @@
 -- One graph: what its list of readings is, seen from its choice. The settled placing alone where no choice is left, the
 -- readings of the first half and then those of the second where there is one, none where there is no solved form. And
--- one decision: the half that it enters is a dominance graph with more descents, and its solved forms are the graph's.
+-- one decision: the half that it enters is a dominance graph with more descents.
 use Prim.Native.Nat.{ℕ, _<_}
 use mathlib.Core.Path.{_≡_, refl}
 use mathlib.Core.List.{[], _∷_, _++_}
 use mathlib.Core.Bool.{Bool, true, false}
-use mathlib.Core.Logic.{⊎-elim}
-use Rattle.graph.specs.Graph.{Graph, own}
+use Rattle.graph.specs.Graph.{Graph, Descent, leaf, own}
 use Rattle.graph.specs.Order.{Choice, adding}
-use Rattle.graph.specs.Placing.{SolvedForm, Solvable, Unsolvable}
+use Rattle.graph.specs.Placing.{Solvable, Unsolvable}
 use Rattle.theory_forest.specs.Shape.{Shaped}
-use Rattle.theory_forest.proofs.Forests.{solved-adding}
+use Rattle.theory_forest.proofs.Forests.{one-leaf-above}
 use Rattle.theory_list.specs.Redundancy.{Loopless}
 use Rattle.theory_list.specs.Choosing.{Unforked, pairs}
-use Rattle.theory_list.proofs.Choosing.{first-shaped, second-shaped, choice-halves, first-grows, second-grows}
+use Rattle.theory_list.proofs.Choosing.{first-shaped, second-shaped, first-grows, second-grows}
 use Rattle.theory_list.specs.Settled.{settled}
 use Rattle.theory_list.specs.Readings.{listed}
 use Rattle.theory_list.proofs.Readings.{alone, split, listed-lists, lists-listing, listing-exists, listing-unique, unsolvable-empty}
@@ -22,6 +21,10 @@ use Rattle.theory_walk.specs.Walk.{Decision, half, first, second}
 
 pub solvable-loopless : {g : Graph} → Solvable g → Loopless g
 solvable-loopless f = solved-loopless (f .1)
+
+-- no solved form: two leaves of one fragment lead to one node, and a forest has at most one of them above it
+pub torn : (g : Graph) → Shaped g → {a b v : ℕ} → leaf g a ≡ true → leaf g b ≡ true → own g a ≡ own g b → (a ≡ b → ⊥) → Descent g a v → Descent g b v → Unsolvable g
+torn g s {a} {b} {v} ha hb same apart x y f = apart (one-leaf-above g (f .0) s (f .1 .is-forest) ha hb same (f .1 .contains a v x) (f .1 .contains b v y))
 
 -- the list of a graph
 
@@ -57,13 +60,6 @@ half-tree g d = go (d .2)
     go true = refl
     go false = refl
 
-pub half-solvable : (g : Graph) (d : Decision) → Solvable (half g d) → Solvable g
-half-solvable g d = go (d .2)
-  where
-    go : (side : Bool) → Solvable (half g (d .0, d .1, side)) → Solvable g
-    go true f = (f .0, solved-adding g (d .0) (own g (d .1)) (f .0) .0 (f .1) .0)
-    go false f = (f .0, solved-adding g (d .1) (own g (d .0)) (f .0) .0 (f .1) .0)
-
 module _ (g : Graph) (s : Shaped g) {v : ℕ} (d : Decision) (c : Choice g v (d .0) (d .1)) where
   pub half-shaped : Shaped (half g d)
   half-shaped = go (d .2)
@@ -78,11 +74,3 @@ module _ (g : Graph) (s : Shaped g) {v : ℕ} (d : Decision) (c : Choice g v (d 
       go : (side : Bool) → pairs g < pairs (half g (d .0, d .1, side))
       go true = first-grows g s n c
       go false = second-grows g s n c
-
--- a solved form of the graph is one of a half
-pub second-solvable : (g : Graph) → Shaped g → {v a b : ℕ} → Choice g v a b → Solvable g → Unsolvable (half g (first a b)) → Solvable (half g (second a b))
-second-solvable g s {v} {a} {b} c f n =
-    ⊎-elim
-    (λ (x : SolvedForm (adding g a (own g b)) (f .0)). absurd (n (f .0, x)))
-    (λ (x : SolvedForm (adding g b (own g a)) (f .0)). (f .0, x))
-    (choice-halves g s c (f .0) .0 (f .1))

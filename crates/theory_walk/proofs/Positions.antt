@@ -1,5 +1,5 @@
 -- Where the readings of the graph at the decisions stand in the list: it is what is passed, those readings, and those after
--- them. Entering a half splits what is next at the choice, and turning to a second half takes its readings
+-- them. Entering a first half splits what is next at the choice, and turning to a second half takes its readings
 -- from those that come after.
 use Prim.Native.Nat.{ℕ}
 use mathlib.Core.Path.{_≡_, refl, sym, ap, _∙_}
@@ -9,10 +9,9 @@ use Rattle.graph.specs.Order.{Choice}
 use Rattle.theory_forest.specs.Shape.{Shaped}
 use Rattle.theory_list.specs.Redundancy.{Loopless}
 use Rattle.theory_list.specs.Readings.{listed}
-use Rattle.graph.specs.Placing.{Unsolvable}
 use Rattle.theory_walk.specs.Walk.{Decision, first, second, half, graphAt, Valid, otherAfter, after}
-use Rattle.theory_walk.proofs.Halves.{listed-empty, listed-split, half-shaped}
-use Rattle.theory_walk.proofs.Decisions.{graph-pushed, Last, valid-popped, graph-shaped}
+use Rattle.theory_walk.proofs.Halves.{listed-split}
+use Rattle.theory_walk.proofs.Decisions.{graph-pushed, graph-shaped}
 
 -- what comes after
 
@@ -33,13 +32,6 @@ after-first g ds a b = after-pushed g ds (first a b)
 pub after-second : (g : Graph) (ds : List Decision) (a b : ℕ) → after g (ds ++ (second a b ∷ [])) ≡ after g ds
 after-second g ds a b = after-pushed g ds (second a b)
 
--- where the second half has no readings, nothing comes between
-pub after-dropped : {g : Graph} (ds : List Decision) (a b : ℕ) → Shaped g → Valid g (ds ++ (first a b ∷ [])) → Unsolvable (half (graphAt g ds) (second a b)) → after g (ds ++ (first a b ∷ [])) ≡ after g ds
-after-dropped {g} ds a b s x n =
-    let l : Last g ds (first a b) = valid-popped g ds (first a b) x in
-    let e : listed (half (graphAt g ds) (second a b)) ≡ [] = listed-empty (half (graphAt g ds) (second a b)) (half-shaped (graphAt g ds) (graph-shaped s (l .before)) (second a b) (l .choice)) n in
-    after-first g ds a b ∙ ap (λ (r : List (List ℕ)). r ++ after g ds) e
-
 -- entering a half
 
 pub listed-first : {g : Graph} {ds : List Decision} {v a b : ℕ} → Shaped g → Valid g ds → Loopless (graphAt g ds) → Choice (graphAt g ds) v a b
@@ -48,13 +40,6 @@ listed-first {g} {ds} {v} {a} {b} s x n c =
     let h : Graph = graphAt g ds in
     rw (graph-pushed g ds (first a b), after-first g ds a b, listed-split h (graph-shaped s x) n c)
     (append-assoc (listed (half h (first a b))) (listed (half h (second a b))) (after g ds))
-
-pub listed-second : {g : Graph} {ds : List Decision} {v a b : ℕ} → Shaped g → Valid g ds → Loopless (graphAt g ds) → Choice (graphAt g ds) v a b → Unsolvable (half (graphAt g ds) (first a b))
-    → listed (graphAt g ds) ++ after g ds ≡ listed (graphAt g (ds ++ (second a b ∷ []))) ++ after g (ds ++ (second a b ∷ []))
-listed-second {g} {ds} {v} {a} {b} s x n c u =
-    let h : Graph = graphAt g ds in
-    let t : Shaped h = graph-shaped s x in
-    rw (graph-pushed g ds (second a b), after-second g ds a b, listed-split h t n c, listed-empty (half h (first a b)) (half-shaped h t (first a b) c) u)
 
 -- turning to the second half
 pub after-turned : (g : Graph) (ds : List Decision) (a b : ℕ) → after g (ds ++ (first a b ∷ [])) ≡ listed (graphAt g (ds ++ (second a b ∷ []))) ++ after g (ds ++ (second a b ∷ []))

@@ -1,25 +1,27 @@
--- The walk's steps, from state to state. Where a choice is left it enters the first half that has a solved form; where
--- none is left it stands at a reading, the one that comes next, and leaves it. Leaving a first half it turns to the
--- second, or drops the decision if that has no solved form; leaving a second half it drops the decision. With no decision
--- left to drop, every reading is passed.
+-- The walk's steps, from state to state. Where a choice is left it enters the first half; where none is left it stands at a
+-- reading, the one that comes next, and leaves it. A graph with no solved form has no readings: once entered it is left.
+-- Leaving a first half it turns to the second; leaving a second half it drops the decision. With no decision left to drop,
+-- every reading is passed.
 use Prim.Native.Nat.{ℕ, _+_, _-_, _*_, _<_}
-use mathlib.Core.Path.{_≡_, sym, ap, subst, _∙_}
+use mathlib.Core.Path.{_≡_, refl, sym, ap, subst, _∙_}
 use mathlib.Core.List.{List, [], _∷_, _++_, append-nil}
 use native.Mathlib.Nat.{add-zero}
 use native.Mathlib.Omega.{arith}
-use lib.ListN.{length, drop, length-drop}
+use lib.ListN.{length, drop, length-append, length-drop}
 use lib.Seq.{drop-drop, getD-drop}
 use Rattle.graph.specs.Graph.{Graph}
 use Rattle.graph.specs.Order.{Choice, entry}
 use Rattle.graph.specs.Placing.{Solvable, Unsolvable}
 use Rattle.theory_forest.specs.Shape.{Shaped}
+use Rattle.theory_list.specs.Redundancy.{Loopless}
 use Rattle.theory_list.specs.Choosing.{Unforked}
 use Rattle.theory_list.specs.Settled.{settled}
 use Rattle.theory_list.specs.Readings.{listed}
-use Rattle.theory_walk.specs.Walk.{Decision, first, second, half, graphAt, outset, after, Remaining, Entering, At, Leaving}
-use Rattle.theory_walk.proofs.Halves.{solvable-loopless, listed-settled, second-solvable}
-use Rattle.theory_walk.proofs.Decisions.{graph-pushed, valid-pushed, valid-popped, valid-turned, graph-shaped, room-left}
-use Rattle.theory_walk.proofs.Positions.{after-outset, after-second, after-dropped, after-turned, listed-first, listed-second}
+use Rattle.theory_list.proofs.Readings.{unsolvable-empty}
+use Rattle.theory_walk.specs.Walk.{Decision, first, second, graphAt, outset, after, Remaining, Entering, At, Leaving}
+use Rattle.theory_walk.proofs.Halves.{listed-empty, listed-settled}
+use Rattle.theory_walk.proofs.Decisions.{valid-pushed, valid-popped, valid-turned, graph-shaped, room-left}
+use Rattle.theory_walk.proofs.Positions.{after-outset, after-second, after-turned, listed-first}
 
 -- what is left
 
@@ -52,12 +54,11 @@ remaining-none r = omega (arith, remaining-length r)
 
 -- entering
 
-pub entering-outset : (g : Graph) → Solvable g → Entering g [] 0
+pub entering-outset : (g : Graph) → Entering g [] 0
 unfolding graphAt after
-entering-outset g f =
+entering-outset g =
     record {
       valid = outset;
-      solvable = f;
       remaining = record { within = omega arith; rest-is = sym (append-nil (listed g)) };
     }
 
@@ -65,38 +66,47 @@ module _ {g : Graph} {ds : List Decision} {k : ℕ} (s : Shaped g) (x : Entering
   pub entering-shaped : Shaped (graphAt g ds)
   entering-shaped = graph-shaped s (x .valid)
 
-  -- where a choice is left
-  module _ {v a b : ℕ} (c : Choice (graphAt g ds) v a b) where
-    pub entering-room : length ds < g .nodes * g .nodes
-    entering-room = room-left s (x .valid) (solvable-loopless (x .solvable)) c
-
-    pub entering-first : Solvable (half (graphAt g ds) (first a b)) → Entering g (ds ++ (first a b ∷ [])) k
-    entering-first f =
-        record {
-          valid = valid-pushed (x .valid) (first a b) c f;
-          solvable = subst Solvable (sym (graph-pushed g ds (first a b))) f;
-          remaining = remaining-same (listed-first s (x .valid) (solvable-loopless (x .solvable)) c) (x .remaining);
-        }
-
-    pub entering-second : Unsolvable (half (graphAt g ds) (first a b)) → Entering g (ds ++ (second a b ∷ [])) k
-    entering-second n =
-        let f : Solvable (half (graphAt g ds) (second a b)) = second-solvable (graphAt g ds) entering-shaped c (x .solvable) n in
-        record {
-          valid = valid-pushed (x .valid) (second a b) c f;
-          solvable = subst Solvable (sym (graph-pushed g ds (second a b))) f;
-          remaining = remaining-same (listed-second s (x .valid) (solvable-loopless (x .solvable)) c n) (x .remaining);
-        }
-
-  -- where none is left
-  pub entering-at : Unforked (graphAt g ds) → At g ds k
-  entering-at u =
-      let n = solvable-loopless (x .solvable) in
+  -- where there is no solved form
+  pub entering-none : Unsolvable (graphAt g ds) → Leaving g ds k
+  entering-none n =
       record {
         valid = x .valid;
-        loopless = n;
-        unforked = u;
-        remaining = remaining-same (ap (λ (l : List (List ℕ)). l ++ after g ds) (listed-settled (graphAt g ds) entering-shaped n u)) (x .remaining);
+        remaining = remaining-same (ap (λ (l : List (List ℕ)). l ++ after g ds) (listed-empty (graphAt g ds) entering-shaped n)) (x .remaining);
       }
+
+  -- where there is one, its readings are yet to pass
+  pub entering-solvable-stays : Solvable (graphAt g ds) → Leaving g ds k → ⊥
+  entering-solvable-stays f y = unsolvable-empty (graphAt g ds) entering-shaped .1 (none (listed (graphAt g ds)) as-many) f
+    where
+      as-many : length (listed (graphAt g ds)) ≡ 0
+      as-many = omega (arith, remaining-length (x .remaining), remaining-length (y .remaining), length-append (listed (graphAt g ds)) (after g ds))
+
+      none : (ps : List (List ℕ)) → length ps ≡ 0 → ps ≡ []
+      none [] e = refl
+      none (p ∷ ps) e = absurd (omega arith)
+
+  module _ (n : Loopless (graphAt g ds)) where
+    -- where a choice is left
+    module _ {v a b : ℕ} (c : Choice (graphAt g ds) v a b) where
+      pub entering-room : length ds < g .nodes * g .nodes
+      entering-room = room-left s (x .valid) n c
+
+      pub entering-first : Entering g (ds ++ (first a b ∷ [])) k
+      entering-first =
+          record {
+            valid = valid-pushed (x .valid) (first a b) c n;
+            remaining = remaining-same (listed-first s (x .valid) n c) (x .remaining);
+          }
+
+    -- where none is left
+    pub entering-at : Unforked (graphAt g ds) → At g ds k
+    entering-at u =
+        record {
+          valid = x .valid;
+          loopless = n;
+          unforked = u;
+          remaining = remaining-same (ap (λ (l : List (List ℕ)). l ++ after g ds) (listed-settled (graphAt g ds) entering-shaped n u)) (x .remaining);
+        }
 
 -- at a reading
 
@@ -112,21 +122,12 @@ module _ {g : Graph} {ds : List Decision} {k : ℕ} (x : At g ds k) where
 
 -- leaving
 
-module _ {g : Graph} (ds : List Decision) (a b : ℕ) {k : ℕ} (s : Shaped g) (x : Leaving g (ds ++ (first a b ∷ [])) k) where
-  pub leaving-turned : Solvable (half (graphAt g ds) (second a b)) → Entering g (ds ++ (second a b ∷ [])) k
-  leaving-turned f =
-      record {
-        valid = valid-turned ds a b (x .valid) f;
-        solvable = subst Solvable (sym (graph-pushed g ds (second a b))) f;
-        remaining = remaining-same (after-turned g ds a b) (x .remaining);
-      }
-
-  pub leaving-first : Unsolvable (half (graphAt g ds) (second a b)) → Leaving g ds k
-  leaving-first n =
-      record {
-        valid = valid-popped g ds (first a b) (x .valid) .before;
-        remaining = remaining-same (after-dropped ds a b s (x .valid) n) (x .remaining);
-      }
+pub leaving-turned : {g : Graph} (ds : List Decision) (a b : ℕ) {k : ℕ} → Leaving g (ds ++ (first a b ∷ [])) k → Entering g (ds ++ (second a b ∷ [])) k
+leaving-turned {g} ds a b x =
+    record {
+      valid = valid-turned ds a b (x .valid);
+      remaining = remaining-same (after-turned g ds a b) (x .remaining);
+    }
 
 pub leaving-second : {g : Graph} (ds : List Decision) (a b : ℕ) {k : ℕ} → Leaving g (ds ++ (second a b ∷ [])) k → Leaving g ds k
 leaving-second {g} ds a b x =

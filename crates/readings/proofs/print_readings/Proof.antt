@@ -6,15 +6,16 @@ use native.Mathlib.Omega.{arith}
 use lib.ListN.{length, length-replicate}
 use Rattle.graph.specs.Order.{limit}
 use Rattle.solve_branch.specs.States.{Stands}
+use Rattle.solve_branch.proofs.Stack.{stack-large}
 use Rattle.solve_walk.specs.States.{Walkable}
 use Rattle.solve_numbered.proofs.Numbers.{room}
 use Rattle.solve_stretch.specs.Stretch.{levelOf}
 use Rattle.show_list.proofs.Lines.{filled-held}
+-- each turn takes away from what is left
 use borrow.Author.Needs.{needs}
 use Rattle.readings.proofs.print_readings.Statement.{statement}
 use Rattle.readings.proofs.print_readings.Tie as tie
 
--- each turn takes away from what is left
 fewer-left : (more b : Bool) (passed last : ℕ) → more ≡ true → passed < limit → passed < last → (b ≡ true → last < limit) → cond b (limit - last) 0 < cond more (limit - passed) 0
 fewer-left more true passed last e h on f = rw e (omega (arith, f refl))
 fewer-left more false passed last e h on f = rw e (omega arith)
@@ -24,7 +25,7 @@ Inv-loop rows owner trees states₀ trail₀ placings₀ stop₀ states trail pl
     (length trail ≡ 32768)
     × (length placings ≡ 262144)
     × (stop .more ≡ true → (stop .last < limit) × ((s : Walkable trees owner rows) → Stands (s .walked .graph) trail states (levelOf stop) (stop .last)))
-    × (length states ≡ 16962)
+    × (length states ≡ 8772)
 
 abbrev μ-loop : tie.MeasureT-loop
 μ-loop rows owner trees states₀ trail₀ placings₀ stop₀ states trail placings stop = cond (stop .more) (limit - stop .last) 0
@@ -36,7 +37,7 @@ slice-aggregate-first-2 : tie.Need-slice-aggregate-first-2 Inv-loop μ-loop
 slice-aggregate-first-2 c = search needs
 
 first-requires : tie.Need-first-requires Inv-loop μ-loop
-first-requires c κs = (c .before .before .before .before .pre, search needs, omega (arith, room (c .before .before .before .before .pre)))
+first-requires c κs = (c .before .before .before .before .pre, omega (arith, stack-large (c .before .before .before .before .args .trees .n) (c .before .before .before .before .pre .walked .table .bounded .few)), omega (arith, room (c .before .before .before .before .pre)))
 
 slice-aggregate-fill : tie.Need-slice-aggregate-fill Inv-loop μ-loop
 slice-aggregate-fill c = search needs

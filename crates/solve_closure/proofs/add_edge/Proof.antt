@@ -24,9 +24,7 @@ same-length : tie.Need-same-length
 same-length c = search needs
 
 returns : tie.Need-returns
-returns c =
-    let over = c .before .before .before .before .rising .ensures in
-    (joined-extended _ _ _ _ _ (c .before .before .before .before .before .before .before .set-at .result) over (c .before .before .before .before .before .before .before .set-at .ensures) (c .before .before .before .before .before .before .with .ensures) (c .before .before .join .ensures), over)
+returns c = joined-extended _ _ _ _ _ (c .before .before .before .before .before .before .before .set-at .result) (c .before .before .before .before .rising .ensures) (c .before .before .before .before .before .before .before .set-at .ensures) (c .before .before .before .before .before .before .with .ensures) (c .before .before .join .ensures)
 
 pub add-edge-spec : {M : Type 1} → statement M
 add-edge-spec =

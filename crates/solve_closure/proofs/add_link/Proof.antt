@@ -20,7 +20,7 @@ returns c =
     let some = c .before .before .before .before .if1 .taken in
     adds-ext
     (λ u v. link-present (a .above) (a .v) u v some)
-    (extended-adds (a .n) (a .above) (a .v) (c .before .before .before .before .before .before .pre .3 some) (c .before .before .add-edge .ensures .0))
+    (extended-adds (a .n) (a .above) (a .v) (c .before .before .before .before .before .before .pre .3 some) (c .before .before .add-edge .ensures))
 
 returns-2 : tie.Need-returns-2
 returns-2 c =

@@ -58,7 +58,7 @@ loop-again c =
           (adds-more
           (passed-from (a .n) (a .l) (a .row) (l .left) (omega arith))
           (l .inv .1)
-          (extended-adds (a .n) (a .l) _ (omega arith) (c .before .before .add-edge .ensures .0))),
+          (extended-adds (a .n) (a .l) _ (omega arith) (c .before .before .add-edge .ensures))),
     )
 
 pub add-row-spec : {M : Type 1} → statement M

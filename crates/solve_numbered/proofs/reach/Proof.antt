@@ -6,7 +6,6 @@ use lib.ListN.{length}
 use Rattle.graph.specs.Graph.{Graph}
 use Rattle.theory_list.specs.Readings.{listed}
 use Rattle.base_tables.specs.Trees.{Fits}
-use Rattle.solve_branch.specs.Levels.{Stack}
 use Rattle.solve_branch.specs.States.{Stands}
 use Rattle.solve_walk.proofs.Moved.{moved-to, moved-end}
 use borrow.Author.Needs.{needs}
@@ -17,7 +16,7 @@ abbrev Inv-loop : tie.InvT-loop
 Inv-loop rows owner trees states₀ trail₀ k at₀ before passed₀ states trail at passed =
     (passed ≤ before)
     × (length trail ≡ length trail₀)
-    × Stack states
+    × (length states ≡ length states₀)
     × ((g : Graph) → Fits g trees owner → Stands g trail₀ states₀ at₀ 0 → Stands g trail states at passed)
 
 abbrev μ-loop : tie.MeasureT-loop
@@ -30,7 +29,7 @@ sub-before : tie.Need-sub-before Inv-loop μ-loop
 sub-before c = search needs
 
 loop-holds : tie.Need-loop-holds Inv-loop μ-loop
-loop-holds c = (omega arith, refl, omega (arith, c .before .before .before .before .before .before .before .before .before .before .before .pre .1, c .before .before .before .before .first .kept), λ g f x. x)
+loop-holds c = (omega arith, refl, refl, λ g f x. x)
 
 next-requires : tie.Need-next-requires Inv-loop μ-loop
 next-requires c κs =

@@ -9,8 +9,8 @@ use denote.Ref.{now}
 use Rattle.graph.specs.Graph.{Graph}
 use Rattle.graph.specs.Order.{limit}
 use Rattle.base_tables.specs.Trees.{Fits}
-use Rattle.solve_branch.specs.Levels.{Stack}
 use Rattle.solve_branch.specs.States.{Stands}
+use Rattle.solve_branch.proofs.Stack.{stack-here}
 use Rattle.solve_walk.proofs.Moved.{moved-to, moved-end}
 use Rattle.solve_stretch.proofs.Placings.{Handed, handed-none, handed-more, handed-all, stands-within}
 use borrow.Author.Needs.{needs}
@@ -21,7 +21,7 @@ abbrev Inv-loop : tie.InvT-loop
 Inv-loop owner trees states₀ trail₀ out₀ n at₀ last₀ end₀ states trail out at last end =
     ((last₀ ≤ last) × (last < limit))
     × (end + n ≤ length out)
-    × Stack states
+    × (length states ≡ length states₀)
     × (length trail ≡ length trail₀)
     × (length out ≡ length out₀)
     × ((g : Graph) → Fits g trees owner → Stands g trail₀ states₀ at₀ last₀ → Stands g trail states at last × Handed g last₀ out₀ last end out)
@@ -30,10 +30,10 @@ abbrev μ-loop : tie.MeasureT-loop
 μ-loop owner trees states₀ trail₀ out₀ n at₀ last₀ end₀ states trail out at last end = limit - last
 
 loop-holds : tie.Need-loop-holds Inv-loop μ-loop
-loop-holds c = ((omega arith, c .before .before .before .before .pre .1 .0), omega (arith, c .before .before .before .before .pre .1 .1), c .before .before .before .before .pre .0 .0 .stands .matches .long, refl, refl, λ g f x. (x, handed-none g (c .before .before .before .before .args .from .last) (now (c .before .before .before .before .args .out))))
+loop-holds c = ((omega arith, c .before .before .before .before .pre .1 .0), omega (arith, c .before .before .before .before .pre .1 .1), refl, refl, refl, λ g f x. (x, handed-none g (c .before .before .before .before .args .from .last) (now (c .before .before .before .before .args .out))))
 
 row-requires : tie.Need-row-requires Inv-loop μ-loop
-row-requires c κs = (c .before .before .loop .inv .2, c .before .before .before .before .before .before .before .pre .0 .0 .walked .table .bounded .few, c .before .before .loop .inv .1)
+row-requires c κs = (omega (arith, stack-here (c .before .before .before .before .before .before .before .args .trees .n) (c .before .before .before .before .before .before .before .pre .0 .0 .walked .fits .trees .nodes) (c .before .before .before .before .before .before .before .pre .0 .0 .stands .matches), c .before .before .loop .inv .2), c .before .before .before .before .before .before .before .pre .0 .0 .walked .table .bounded, c .before .before .loop .inv .1)
 
 add-last : tie.Need-add-last Inv-loop μ-loop
 add-last c = omega (arith, c .before .before .before .before .before .loop .inv .0)
@@ -102,7 +102,7 @@ sub-if2 : tie.Need-sub-if2 Inv-loop μ-loop
 sub-if2 c = search needs
 
 same-length-7 : tie.Need-same-length-7 Inv-loop μ-loop
-same-length-7 c = omega (arith, c .before .before .before .before .before .before .before .before .before .before .before .before .before .before .before .before .before .loop .inv .2, c .before .before .before .before .before .before .before .before .next .kept, c .before .before .before .before .before .before .before .before .before .before .before .before .before .before .before .before .before .before .before .before .before .before .pre .0 .0 .stands .matches .long)
+same-length-7 c = search needs
 
 same-length-8 : tie.Need-same-length-8 Inv-loop μ-loop
 same-length-8 c = search needs

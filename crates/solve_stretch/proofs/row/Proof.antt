@@ -28,7 +28,7 @@ returns c =
     let a = c .before .before .before .before .before .before .args in
     let e = c .before .before .read-off .ensures in
     let h : a .at ≤ length (now (a .out)) = omega (arith, c .before .before .before .before .before .before .pre .2) in
-    (row-rest (a .at) (a .n) (now (a .out)) _ h (e .0), λ g x. row-first (a .at) (a .n) (now (a .out)) _ h _ (e .1 g x))
+    (row-rest (a .at) (a .trees .n) (now (a .out)) _ h (e .0), λ g ends x. row-first (a .at) (a .trees .n) (now (a .out)) _ h _ (e .1 g ends x))
 
 pub row-spec : {M : Type 1} → statement M
 row-spec =

@@ -36,7 +36,7 @@ returns : tie.Need-returns
 returns c g fits rows =
     answer-is g (fits .shaped) (inRow (now (c .before .before .before .before .before .before .before .before .before .before .before .before .before .args .rows)))
     (inRow (c .before .before .before .before .before .before .before .near-rows .last .1 .1 .0)) (inRow (c .before .before .before .before .leaf-rows .last .1 .1 .0))
-    (c .before .before .before .before .before .before .before .before .before .before .before .before .before .args .trees .roots) (fits .trees .roots-are) (rows .row-is) (c .before .before .before .before .before .before .before .near-rows .ensures .near-is)
+    (c .before .before .before .before .before .before .before .before .before .before .before .before .before .args .trees .roots) (fits .trees .roots-are) (rows .closed) (rows .row-is) (c .before .before .before .before .before .before .before .near-rows .ensures .near-is)
     (leaves-are (c .before .before .before .before .before .before .before .before .before .before .before .before .before .pre .0 .bounded) fits (c .before .before .before .before .leaf-rows .ensures)) (c .eliminate .result) (c .eliminate .ensures)
 
 pub solvable-spec : {M : Type 1} → statement M

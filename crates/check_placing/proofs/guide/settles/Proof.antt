@@ -18,11 +18,16 @@ same-requires c κs = search needs
 
 returns : tie.Need-returns
 returns c =
-    λ h is.
-    let e = c .before .before .before .settle .ensures .1 h is in
+    λ h ends is.
+    let e = c .before .before .before .settle .ensures .1 h ends is in
     (λ t. sym e ∙ c .same .ensures .0 t, λ i. c .same .ensures .1 (e ∙ i))
 
 pub settles-spec : {M : Type 1} → statement M
 settles-spec =
     tie.close
-    (tie.spec slice-aggregate-settle settle-requires slice-aggregate-same same-requires returns)
+    (tie.spec
+    slice-aggregate-settle
+    settle-requires
+    slice-aggregate-same
+    same-requires
+    returns)

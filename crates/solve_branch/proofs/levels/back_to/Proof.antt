@@ -1,13 +1,17 @@
 -- The level is kept, or made again.
 use mathlib.Core.Path.{refl}
-use Rattle.solve_branch.proofs.Tables.{kept-all}
-use Rattle.solve_branch.proofs.Stack.{matches-fewer}
+use mathlib.Core.Logic.{inl, inr}
+use native.Mathlib.Omega.{arith}
+use Rattle.solve_branch.proofs.Stack.{matches-back}
 use borrow.Author.Needs.{needs}
 use Rattle.solve_branch.proofs.levels.back_to.Statement.{statement}
 use Rattle.solve_branch.proofs.levels.back_to.Tie as tie
 
+sub-open : tie.Need-sub-open
+sub-open c = search needs
+
 returns : tie.Need-returns
-returns c = (refl, λ g f m h v. (matches-fewer _ (kept-all _ _) h refl m, c .if1 .taken))
+returns c = ((refl, inl (omega (arith, c .before .if1 .taken))), λ g f m h is less v. (matches-back _ m h less is (omega (arith, c .before .if1 .taken)) refl, omega (arith, c .before .if1 .taken)))
 
 replay-requires : tie.Need-replay-requires
 replay-requires c κs = search needs
@@ -16,12 +20,13 @@ same-length : tie.Need-same-length
 same-length c = search needs
 
 returns-2 : tie.Need-returns-2
-returns-2 c = (c .before .before .replay .ensures .0, λ g f m h v. c .before .before .replay .ensures .1 g (c .before .before .before .before .before .before .before .before .before .args .at) f m v)
+returns-2 c = ((c .before .before .replay .ensures .0 .0, inr (c .before .before .replay .ensures .0 .1)), λ g f m h is less v. c .before .before .replay .ensures .1 g (c .before .before .before .before .before .before .before .before .before .args .at) f m v)
 
 pub back-to-spec : {M : Type 1} → statement M
 back-to-spec =
     tie.close
     (tie.spec
+    sub-open
     returns
     replay-requires
     same-length

@@ -1,43 +1,47 @@
 -- Each turn takes one decision more.
-use Prim.Native.Nat.{_-_, _≤_}
-use mathlib.Core.Path.{refl}
+use Prim.Native.Nat.{ℕ, _-_, _*_, _≤_}
+use mathlib.Core.Path.{_≡_, refl, ap}
 use mathlib.Core.Logic.{inr}
 use native.Mathlib.Omega.{arith}
+use lib.ListN.{length}
 use denote.Ref.{now}
 use Rattle.graph.specs.Graph.{Graph}
 use Rattle.theory_walk.specs.Walk.{Valid}
 use Rattle.base_tables.specs.Trees.{Fits}
 use Rattle.solve_branch.specs.Decisions.{decisions}
-use Rattle.solve_branch.specs.Levels.{Stack, Matches}
+use Rattle.solve_branch.specs.Levels.{Matches}
 use Rattle.solve_branch.proofs.Stack.{matches-outset}
-use Rattle.solve_branch.proofs.Fitting.{decision-fresh, valid-shaped}
+use Rattle.solve_branch.proofs.Fitting.{decision-fresh, decision-loopless, valid-shaped}
 use borrow.Author.Needs.{needs}
 use Rattle.solve_branch.proofs.levels.replay.Statement.{statement}
 use Rattle.solve_branch.proofs.levels.replay.Tie as tie
 
 abbrev Inv-loop : tie.InvT-loop
-Inv-loop owner trees states₀ trail depth at₀ states at =
+Inv-loop owner trees states₀ trail depth wide at₀ states at =
     (at .depth ≤ depth)
-    × Stack states
-    × ((g : Graph) → Fits g trees owner → Matches g trail states₀ at₀ → at₀ .kept ≤ at₀ .depth → Valid g (decisions trail depth) → Matches g trail states at × (at .kept ≤ at .depth))
+    × (at .open ≤ at .depth)
+    × (length states ≡ length states₀)
+    × ((g : Graph) → Fits g trees owner → Matches g trail states₀ at₀ → at₀ .kept ≤ at₀ .open → Valid g (decisions trail depth) → Matches g trail states at × (at .kept ≤ at .open))
 
 abbrev μ-loop : tie.MeasureT-loop
-μ-loop owner trees states₀ trail depth at₀ states at = depth - at .depth
+μ-loop owner trees states₀ trail depth wide at₀ states at = depth - at .depth
+
+width-requires : tie.Need-width-requires Inv-loop μ-loop
+width-requires c κs = c .before .before .before .pre .0 .bounded .few
 
 mul-copy-within : tie.Need-mul-copy-within Inv-loop μ-loop
-mul-copy-within c = search needs
-
-add-copy-within : tie.Need-add-copy-within Inv-loop μ-loop
-add-copy-within c = search needs
+mul-copy-within c = omega (arith, c .before .width .ensures, c .before .before .before .before .before .pre .0 .bounded .few)
 
 copy-within-requires : tie.Need-copy-within-requires Inv-loop μ-loop
-copy-within-requires c κs = (omega (arith, c .before .before .before .before .before .pre .1, c .before .before .before .before .before .pre .0 .bounded .few), omega (arith, c .before .before .before .before .before .pre .1, c .before .before .before .before .before .pre .0 .bounded .few), inr (omega (arith, c .before .before .before .before .before .pre .0 .bounded .few)))
+copy-within-requires c κs = (omega (arith, c .before .before .before .before .before .pre .1, c .before .width .ensures), omega (arith, c .before .before .before .before .before .pre .1, c .before .width .ensures), inr (omega (arith, c .before .width .ensures)))
 
 loop-holds : tie.Need-loop-holds Inv-loop μ-loop
-loop-holds c = (omega arith, omega (arith, c .before .before .copy-within .kept, c .before .before .before .before .before .before .before .before .pre .1), λ g f m here v. (m, here))
+loop-holds c = (omega arith, omega arith, refl, λ g f m here v. (m, here))
 
 down-requires : tie.Need-down-requires Inv-loop μ-loop
-down-requires c κs = (c .before .before .before .before .before .before .before .before .before .before .before .before .pre .0, c .before .before .before .loop .inv .1, c .before .before .before .before .before .before .before .before .before .before .before .before .pre .2 (c .before .before .before .loop .at .depth) (c .before .if1 .taken))
+down-requires c κs =
+    let noted = c .before .before .before .before .before .before .before .before .before .before .before .before .pre .2 (c .before .before .before .loop .at .depth) (c .before .if1 .taken) in
+    (c .before .before .before .before .before .before .before .before .before .before .before .before .pre .0, omega (arith, c .before .before .before .before .before .before .before .before .before .before .before .before .pre .1, c .before .before .before .before .before .before .copy-within .kept, c .before .before .before .loop .inv .2), noted, omega (arith, noted .long, c .before .before .before .loop .inv .1))
 
 loop-less : tie.Need-loop-less Inv-loop μ-loop
 loop-less c = omega (arith, c .before .before .down .ensures .0 .0, c .before .before .before .before .if1 .taken)
@@ -47,10 +51,13 @@ loop-again c =
     let a = c .before .before .before .before .before .before .before .before .before .before .before .before .before .before .before .args in
     let l = c .before .before .before .before .before .before .loop in (
       omega (arith, c .before .before .down .ensures .0 .0, c .before .before .before .before .if1 .taken),
-      omega (arith, c .before .before .down .kept, l .inv .1),
+      omega (arith, c .before .before .down .ensures .0 .0, c .before .before .down .ensures .0 .1, l .inv .1),
+      omega (arith, c .before .before .down .kept, l .inv .2),
       λ g f m here v.
-          let x = l .inv .2 g f m here v in
-          c .before .before .down .ensures .1 g f (x .0) (x .1) (valid-shaped g (a .trees) (now (a .owner)) (now (a .trail)) f (l .at .depth) (a .depth) (omega arith) v) (decision-fresh g (a .trees) (now (a .owner)) (now (a .trail)) f (l .at .depth) (a .depth) (c .before .before .before .before .if1 .taken) v),
+          let x = l .inv .3 g f m here v in
+          c .before .before .down .ensures .1 g f (x .0) (x .1) (valid-shaped g (a .trees) (now (a .owner)) (now (a .trail)) f (l .at .depth) (a .depth) (omega arith) v)
+          (decision-loopless g (a .trees) (now (a .owner)) (now (a .trail)) f (l .at .depth) (a .depth) (c .before .before .before .before .if1 .taken) v)
+          (decision-fresh g (a .trees) (now (a .owner)) (now (a .trail)) f (l .at .depth) (a .depth) (c .before .before .before .before .if1 .taken) v),
     )
 
 same-length : tie.Need-same-length Inv-loop μ-loop
@@ -59,8 +66,10 @@ same-length c = search needs
 returns : tie.Need-returns Inv-loop μ-loop
 returns c =
     let a = c .before .before .before .before .before .before .before .before .before .before .before .args in
-    let l = c .before .before .loop in
-    (omega arith, λ g from f m v. l .inv .2 g f (matches-outset (a .trees .n) (c .before .before .before .before .before .before .before .before .before .before .before .pre .0 .bounded .few) (f .trees .nodes) (m .long) (m .outset) (omega (arith, c .before .before .before .before .before .copy-within .kept, c .before .before .before .before .before .before .before .before .before .before .before .pre .1)) (c .before .before .before .before .before .copy-within .ensures) _ refl refl) (omega arith) v)
+    let l = c .before .before .loop in (
+      (omega arith, omega (arith, l .inv .1)),
+      λ g from f m v. l .inv .3 g f (matches-outset (a .trees .n) (f .trees .nodes) (c .before .before .before .before .before .before .before .before .before .before .before .pre .1) (m .outset) (m .fragments) (c .before .before .before .before .before .copy-within .kept .0) _ _ (c .before .before .before .before .before .before .before .width .ensures) (ap (λ (k : ℕ). k * 32) (c .before .before .before .before .before .before .before .width .ensures)) (c .before .before .before .before .before .copy-within .ensures) _ refl refl refl) (omega arith) v,
+    )
 
 pub replay-spec : {M : Type 1} → statement M
 replay-spec =
@@ -68,8 +77,8 @@ replay-spec =
     (tie.spec
     Inv-loop
     μ-loop
+    width-requires
     mul-copy-within
-    add-copy-within
     copy-within-requires
     loop-holds
     down-requires

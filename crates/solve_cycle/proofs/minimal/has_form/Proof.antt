@@ -1,6 +1,7 @@
 -- The rows are those of each graph that the tables hold.
 use Rattle.theory_forest.proofs.Shape.{well-formed-shaped}
 use Rattle.base_tables.proofs.TreeLaws.{tree-of}
+use Rattle.solve_test.proofs.Solved.{end-rows}
 use borrow.Author.Needs.{needs}
 use Rattle.solve_cycle.proofs.minimal.has_form.Statement.{statement}
 use Rattle.solve_cycle.proofs.minimal.has_form.Tie as tie
@@ -19,7 +20,7 @@ solvable-requires c κs = (c .before .before .before .before .before .before .be
 
 returns : tie.Need-returns
 returns c = λ g edges t.
-    c .solvable .ensures g (c .before .before .before .before .before .before .before .before .before .pre .0 .fits g (well-formed-shaped (t .well-formed)) (tree-of t)) (c .before .before .before .graph-rows .ensures g edges t)
+    c .solvable .ensures g (c .before .before .before .before .before .before .before .before .before .pre .0 .fits g (well-formed-shaped (t .well-formed)) (tree-of t)) (end-rows g (c .before .before .before .graph-rows .ensures g edges t))
 
 pub has-form-spec : {M : Type 1} → statement M
 has-form-spec =

@@ -6,9 +6,6 @@ use borrow.Author.Needs.{needs}
 use Rattle.solve_reduce.proofs.choose.choose.Statement.{statement}
 use Rattle.solve_reduce.proofs.choose.choose.Tie as tie
 
-add-set-at : tie.Need-add-set-at
-add-set-at c = search needs
-
 set-at-requires : tie.Need-set-at-requires
 set-at-requires c κs =
     omega (arith, c .before .pre)
@@ -20,9 +17,6 @@ returns : tie.Need-returns
 returns c =
     let a = c .before .before .before .before .args in
     (tt, λ g is. unforked g (a .n) (now (a .sets)) is (c .before .before .set-at .result) (c .before .before .set-at .ensures) (c .before .lowest .result) (c .before .lowest .ensures) (c .if1 .taken))
-
-add-set-at-2 : tie.Need-add-set-at-2
-add-set-at-2 c = search needs
 
 set-at-requires-2 : tie.Need-set-at-requires-2
 set-at-requires-2 c κs =
@@ -50,11 +44,9 @@ pub choose-spec : {M : Type 1} → statement M
 choose-spec =
     tie.close
     (tie.spec
-    add-set-at
     set-at-requires
     lowest-requires
     returns
-    add-set-at-2
     set-at-requires-2
     second-lowest-requires
     returns-2

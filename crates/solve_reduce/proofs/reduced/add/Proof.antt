@@ -1,102 +1,81 @@
--- The rows are extended, the edges that have become redundant go, and the new one comes.
+-- The rows of the leaves above are joined, the edges that have become redundant go, and the new one comes.
 use mathlib.Core.Path.{sym, _∙_}
 use native.Mathlib.Omega.{arith}
 use Rattle.base_finite.proofs.Laws.{and-both}
 use Rattle.base_nodeset.specs.Set.{mem}
 use denote.Ref.{now}
 use Rattle.graph.specs.Order.{adding}
+use Rattle.theory_forest.proofs.Fragments.{root-adding}
 use Rattle.solve_reduce.specs.Reduced.{Forks}
-use Rattle.solve_reduce.proofs.Tables.{added, marked, forks-put, forks-kept}
+use Rattle.solve_reduce.proofs.Tables.{nodes-adding, added, joined-forks, marked, forks-put}
 use borrow.Author.Needs.{needs}
 use Rattle.solve_reduce.proofs.reduced.add.Statement.{statement}
 use Rattle.solve_reduce.proofs.reduced.add.Tie as tie
 
 set-at-requires : tie.Need-set-at-requires
-set-at-requires c κs = search needs
+set-at-requires c κs = omega (arith, c .before .before .before .pre .0)
 
-with-requires : tie.Need-with-requires
-with-requires c κs = search needs
+over-requires : tie.Need-over-requires
+over-requires c κs = (omega (arith, c .before .before .before .before .before .pre .0), c .before .before .before .before .before .pre .1, c .before .before .before .before .before .pre .2)
+
+join-requires : tie.Need-join-requires
+join-requires c κs = λ x m. omega (arith, c .before .before .before .before .before .before .before .pre .0, c .before .over .ensures .0 x m)
 
 intersection-requires : tie.Need-intersection-requires
 intersection-requires c κs = search needs
-
-add-set-at : tie.Need-add-set-at
-add-set-at c = omega (arith, c .before .before .before .before .before .before .pre .1 .few, c .before .before .before .before .before .before .pre .2, c .before .before .before .before .before .before .pre .3)
-
-set-at-requires-2 : tie.Need-set-at-requires-2
-set-at-requires-2 c κs =
-    omega (arith, c .before .before .before .before .before .before .pre .0, c .before .before .before .before .before .before .pre .1 .few)
-
-add-edge-requires : tie.Need-add-edge-requires
-add-edge-requires c κs = search needs
 
 empty-requires : tie.Need-empty-requires
 empty-requires c κs = search needs
 
 revise-requires : tie.Need-revise-requires
-revise-requires c κs =
-    let p = c .before .before .before .before .before .before .before .before .before .before .before .before .before .pre in
-    let k = c .before .before .before .before .add-edge .kept in
-    (omega (arith, p .0, k), p .1 .few, λ v m. p .1 .roots-within v (and-both (mem (c .before .before .before .before .before .before .before .before .before .with .result) v) (mem (c .before .before .before .before .before .before .before .before .before .before .before .before .before .args .trees .roots) v) (sym (c .before .before .before .before .before .before .before .before .intersection .ensures v) ∙ m) .1))
+revise-requires c κs = λ v m. omega (arith, c .before .before .before .before .before .before .before .before .before .before .before .before .before .pre .0, c .before .before .before .before .before .join .kept, c .before .before .before .before .before .before .before .before .before .before .before .before .before .pre .1 .bounded .roots-within v (and-both (mem (c .before .before .before .before .before .before .before .before .before .before .before .before .before .args .below) v) (mem (c .before .before .before .before .before .before .before .before .before .before .before .before .before .args .trees .roots) v) (sym (c .before .before .intersection .ensures v) ∙ m) .1))
 
-add-set-at-2 : tie.Need-add-set-at-2
-add-set-at-2 c = omega (arith, c .before .before .before .before .before .before .before .before .before .before .before .before .before .before .before .before .before .pre .1 .few, c .before .before .before .before .before .before .before .before .before .before .before .before .before .before .before .before .before .pre .2, c .before .before .before .before .before .before .before .before .before .before .before .before .before .before .before .before .before .pre .3)
+set-at-requires-2 : tie.Need-set-at-requires-2
+set-at-requires-2 c κs = omega (arith, c .before .before .before .before .before .before .before .before .before .before .before .before .before .before .before .before .before .pre .0, c .before .before .before .before .before .before .before .before .before .before .before .before .before .before .before .before .before .pre .3, c .before .before .before .before .before .before .before .before .before .join .kept, c .before .before .before .revise .kept)
 
-set-at-requires-3 : tie.Need-set-at-requires-3
-set-at-requires-3 c κs =
-    omega (arith, c .before .before .before .revise .ensures .0 .wide, c .before .before .before .before .before .before .before .before .before .before .before .before .before .before .before .before .before .pre .1 .few, c .before .before .before .before .before .before .before .before .before .before .before .before .before .before .before .before .before .pre .3)
-
-with-requires-2 : tie.Need-with-requires-2
-with-requires-2 c κs = omega (arith, c .before .before .before .before .before .before .before .before .before .before .before .before .before .before .before .before .before .before .pre .1 .few, c .before .before .before .before .before .before .before .before .before .before .before .before .before .before .before .before .before .before .pre .2, c .before .before .before .before .before .before .before .before .before .before .before .before .before .before .before .before .before .before .pre .3)
-
-add-put-at : tie.Need-add-put-at
-add-put-at c = omega (arith, c .before .before .before .before .before .before .before .before .before .before .before .before .before .before .before .before .before .before .before .before .pre .1 .few, c .before .before .before .before .before .before .before .before .before .before .before .before .before .before .before .before .before .before .before .before .pre .2, c .before .before .before .before .before .before .before .before .before .before .before .before .before .before .before .before .before .before .before .before .pre .3)
+with-requires : tie.Need-with-requires
+with-requires c κs = omega (arith, c .before .before .before .before .before .before .before .before .before .before .before .before .before .before .before .before .before .before .pre .1 .bounded .few, c .before .before .before .before .before .before .before .before .before .before .before .before .before .before .before .before .before .before .pre .2)
 
 put-at-requires : tie.Need-put-at-requires
-put-at-requires c κs =
-    omega (arith, c .before .before .before .before .before .before .revise .ensures .0 .wide, c .before .before .before .before .before .before .before .before .before .before .before .before .before .before .before .before .before .before .before .before .pre .1 .few, c .before .before .before .before .before .before .before .before .before .before .before .before .before .before .before .before .before .before .before .before .pre .3)
-
-add-put-at-2 : tie.Need-add-put-at-2
-add-put-at-2 c = omega (arith, c .before .before .before .before .before .before .before .before .before .before .before .before .before .before .before .before .before .before .before .before .before .before .before .before .pre .1 .few, c .before .before .before .before .before .before .before .before .before .before .before .before .before .before .before .before .before .before .before .before .before .before .before .before .pre .2, c .before .before .before .before .before .before .before .before .before .before .before .before .before .before .before .before .before .before .before .before .before .before .before .before .pre .3)
+put-at-requires c κs = omega (arith, c .before .before .before .before .before .before .before .before .before .before .before .before .before .before .before .before .before .before .before .before .pre .0, c .before .before .before .before .before .before .before .before .before .before .before .before .before .before .before .before .before .before .before .before .pre .3, c .before .before .before .before .before .before .before .before .before .before .before .before .join .kept, c .before .before .before .before .before .before .revise .kept)
 
 noted-requires : tie.Need-noted-requires
-noted-requires c κs = omega (arith, c .before .before .before .before .before .before .before .before .before .before .before .before .before .before .before .before .before .before .before .before .before .before .before .before .pre .1 .few, c .before .before .before .before .before .before .before .before .before .before .before .before .before .before .before .before .before .before .before .before .before .before .before .before .pre .2, c .before .before .before .before .before .before .before .before .before .before .before .before .before .before .before .before .before .before .before .before .before .before .before .before .pre .3)
+noted-requires c κs = omega (arith, c .before .before .before .before .before .before .before .before .before .before .before .before .before .before .before .before .before .before .before .before .before .before .before .before .pre .1 .bounded .few, c .before .before .before .before .before .before .before .before .before .before .before .before .before .before .before .before .before .before .before .before .before .before .before .before .pre .3)
 
 put-at-requires-2 : tie.Need-put-at-requires-2
-put-at-requires-2 c κs =
-    omega (arith, c .before .before .before .before .before .before .before .before .before .before .before .revise .ensures .0 .wide, c .before .before .before .before .put-at .ensures .long, c .before .before .before .before .before .before .before .before .before .before .before .before .before .before .before .before .before .before .before .before .before .before .before .before .before .pre .1 .few)
+put-at-requires-2 c κs = omega (arith, c .before .before .before .before .before .before .before .before .before .before .before .before .before .before .before .before .before .before .before .before .before .before .before .before .before .pre .0, c .before .before .before .before .before .before .before .before .before .before .before .before .before .before .before .before .before .join .kept, c .before .before .before .before .before .before .before .before .before .before .before .revise .kept, c .before .before .before .before .put-at .ensures .long)
 
 same-length : tie.Need-same-length
-same-length c = c .before .before .put-at2 .ensures .long ∙ c .before .before .before .before .before .before .before .put-at .ensures .long ∙ c .before .before .before .before .before .before .before .before .before .before .before .before .before .before .revise .ensures .0 .wide ∙ sym (c .before .before .before .before .before .before .before .before .before .before .before .before .before .before .before .before .before .before .before .before .before .before .before .before .before .before .before .before .pre .0)
+same-length c = omega (arith, c .before .before .put-at2 .ensures .long, c .before .before .before .before .before .before .before .put-at .ensures .long, c .before .before .before .before .before .before .before .before .before .before .before .before .before .before .before .before .before .before .before .before .join .kept, c .before .before .before .before .before .before .before .before .before .before .before .before .before .before .revise .kept)
 
 returns : tie.Need-returns
 returns c =
     let a = c .before .before .before .before .before .before .before .before .before .before .before .before .before .before .before .before .before .before .before .before .before .before .before .before .before .before .before .before .args in
-    let n = a .trees .n in
-    λ g s are new before.
-    let old : Forks n (now (a .sets)) (c .before .before .before .before .before .before .before .before .before .before .before .before .before .before .before .before .before .before .before .before .before .set-at2 .result) = λ v h. c .before .before .before .before .before .before .before .before .before .before .before .before .before .before .before .before .before .before .before .before .before .set-at2 .ensures v ∙ before .forks v h in
-    let edge = added n (a .trees .roots) (a .a) (a .r) (c .before .before .before .before .before .before .before .before .before .before .before .before .before .before .before .before .before .before .before .before .before .before .before .before .before .before .before .before .pre .2) (c .before .before .before .before .before .before .before .before .before .before .before .before .before .before .before .before .before .before .before .before .before .before .before .before .before .before .before .before .pre .3) (c .before .before .before .before .before .before .before .before .before .before .before .before .before .before .before .before .before .before .before .before .before .before .before .before .before .set-at .result) (c .before .before .before .before .before .before .before .before .before .before .before .before .before .before .before .before .before .before .before .before .before .before .before .before .with .result) (c .before .before .before .before .before .before .before .before .before .before .before .before .before .before .before .before .before .before .before .before .before .before .before .intersection .result) (c .before .before .before .before .before .before .before .before .before .before .before .before .before .before .before .before .before .before .before .add-edge .result) (c .before .before .before .before .before .before .before .before .before .before .before .before .before .before .before .empty .result) (c .before .before .before .before .before .before .before .before .before .before .set-at3 .result) (c .before .before .before .before .before .before .before .before .before .with2 .result) (c .before .before .before .before .before .before .before .before .before .before .before .before .before .before .before .before .before .before .before .before .before .before .before .before .before .set-at .ensures) (c .before .before .before .before .before .before .before .before .before .before .before .before .before .before .before .before .before .before .before .before .before .before .before .before .with .ensures) (c .before .before .before .before .before .before .before .before .before .before .before .before .before .before .before .before .before .before .before .before .before .before .before .intersection .ensures) (c .before .before .before .before .before .before .before .before .before .before .before .before .before .before .before .before .before .before .before .add-edge .ensures .0) (c .before .before .before .before .before .before .before .before .before .before .before .before .before .before .before .before .before .before .before .add-edge .ensures .1) (c .before .before .before .before .before .before .before .before .before .before .before .before .before .before .before .empty .ensures) (c .before .before .before .before .before .before .before .before .before .before .before .before .before .before .revise .ensures .0) (c .before .before .before .before .before .before .before .before .before .before .set-at3 .ensures) (c .before .before .before .before .before .before .before .before .before .with2 .ensures) (c .before .before .before .before .before .before .before .put-at .ensures) g s (are .nodes) (are .roots-are) new before
-    (c .before .before .before .before .before .before .before .put-at .ensures .long ∙ c .before .before .before .before .before .before .before .before .before .before .before .before .before .before .revise .ensures .0 .wide) in
-    marked (adding g (a .a) (a .r)) edge (forks-put n (a .r) (c .before .before .before .before .before .before .before .before .before .before .before .before .before .before .revise .result) (c .before .before .before .noted .result) (c .before .before .before .before .before .before .before .put-at .ensures) (c .before .before .before .noted .ensures) (c .before .before .before .before .before .before .before .before .before .before .before .before .before .before .revise .ensures .1 (forks-kept n (a .a) (a .r) (c .before .before .before .before .before .before .before .before .before .before .before .before .before .before .before .before .before .before .before .before .before .set-at2 .result) (c .before .before .before .before .before .before .before .before .before .before .before .before .before .before .before .before .before .before .before .add-edge .ensures .0) old))) (c .before .before .put-at2 .ensures)
+    let t = a .trees in
+    λ g f free new is before.
+    let s = f .shaped in
+    let ends = f .trees in
+    let up = c .before .before .before .before .before .before .before .before .before .before .before .before .before .before .before .before .before .before .before .before .before .before .over .ensures .1 g f free before (new .from-leaf) in
+    let old : Forks (t .roots) (now (a .sets)) (c .before .before .before .before .before .before .before .before .before .before .before .before .before .before .before .before .before .before .before .before .before .before .before .before .set-at .result) = λ v. c .before .before .before .before .before .before .before .before .before .before .before .before .before .before .before .before .before .before .before .before .before .before .before .before .set-at .ensures v ∙ before .forks v ∙ rw (ends .roots-are v) in
+    let edge = added g s t ends (a .a) (a .r) new before (c .before .before .before .before .before .before .before .before .before .before .before .before .before .before .before .before .before .before .before .before .before .before .over .result) (a .below) (c .before .before .before .before .before .before .before .before .before .before .before .before .before .before .before .before .before .intersection .result) (c .before .before .before .before .before .before .before .before .before .before .before .before .before .before .before .empty .result) (c .before .before .before .before .before .before .before .before .before .before .set-at2 .result) (c .before .before .before .before .before .before .before .before .before .with .result) is up (c .before .before .before .before .before .before .before .before .before .before .before .before .before .before .before .before .before .before .before .before .join .ensures) (c .before .before .before .before .before .before .before .before .before .before .before .before .before .before .before .before .before .intersection .ensures) (c .before .before .before .before .before .before .before .before .before .before .before .before .before .before .before .empty .ensures) (c .before .before .before .before .before .before .before .before .before .before .before .before .before .before .revise .ensures .0) (c .before .before .before .before .before .before .before .before .before .before .set-at2 .ensures) (c .before .before .before .before .before .before .before .before .before .with .ensures) (c .before .before .before .before .before .before .before .put-at .ensures)
+    (omega (arith, c .before .before .before .before .before .before .before .before .before .before .before .before .before .before .before .before .before .before .before .before .before .before .before .before .before .before .before .before .pre .0, c .before .before .before .before .before .before .before .put-at .ensures .long, c .before .before .before .before .before .before .before .before .before .before .before .before .before .before .before .before .before .before .before .before .join .kept, c .before .before .before .before .before .before .before .before .before .before .before .before .before .before .revise .kept)) in
+    let joined = joined-forks g s t ends (a .a) (a .r) new before (c .before .before .before .before .before .before .before .before .before .before .before .before .before .before .before .before .before .before .before .before .before .before .over .result) (a .below) (c .before .before .before .before .before .before .before .before .before .before .before .before .before .before .before .before .before .intersection .result) (c .before .before .before .before .before .before .before .before .before .before .before .before .before .before .before .empty .result) (c .before .before .before .before .before .before .before .before .before .before .set-at2 .result) (c .before .before .before .before .before .before .before .before .before .with .result) is up (c .before .before .before .before .before .before .before .before .before .before .before .before .before .before .before .before .before .before .before .before .join .ensures) (c .before .before .before .before .before .before .before .before .before .before .before .before .before .before .before .before .before .intersection .ensures) (c .before .before .before .before .before .before .before .before .before .before .before .before .before .before .before .empty .ensures) (c .before .before .before .before .before .before .before .before .before .before .before .before .before .before .revise .ensures .0) (c .before .before .before .before .before .before .before .before .before .before .set-at2 .ensures) (c .before .before .before .before .before .before .before .before .before .with .ensures) (c .before .before .before .before .before .before .before .put-at .ensures) (c .before .before .before .before .before .before .before .before .before .before .before .before .before .before .before .before .before .before .before .before .before .before .before .before .set-at .result) old in
+    let fewer = c .before .before .before .before .before .before .before .before .before .before .before .before .before .before .revise .ensures .1 (t .roots) (λ v m. and-both (mem (a .below) v) (mem (t .roots) v) (sym (c .before .before .before .before .before .before .before .before .before .before .before .before .before .before .before .before .before .intersection .ensures v) ∙ m) .1) joined in
+    marked (t .roots) (adding g (a .a) (a .r)) (ends .nodes ∙ sym (nodes-adding g (a .a) (a .r))) (λ v. ends .roots-are v ∙ sym (root-adding g (a .a) (a .r) v)) edge (forks-put (t .roots) (a .r) (c .before .before .before .before .before .before .before .before .before .before .before .before .before .before .revise .result) (c .before .before .before .noted .result) (ends .roots-are (a .r) ∙ new .to-root) (c .before .before .before .before .before .before .before .put-at .ensures) (c .before .before .before .noted .ensures) fewer) (c .before .before .put-at2 .ensures)
 
 pub add-spec : {M : Type 1} → statement M
 add-spec =
     tie.close
     (tie.spec
     set-at-requires
-    with-requires
+    over-requires
+    join-requires
     intersection-requires
-    add-set-at
-    set-at-requires-2
-    add-edge-requires
     empty-requires
     revise-requires
-    add-set-at-2
-    set-at-requires-3
-    with-requires-2
-    add-put-at
+    set-at-requires-2
+    with-requires
     put-at-requires
-    add-put-at-2
     noted-requires
     put-at-requires-2
     same-length
