@@ -1,6 +1,6 @@
 -- The rows of roots and leaves, from a state; and what shows at a leaf that there is no solved form.
 use Prim.Native.Nat.{ℕ, _+_, _≤_, _<_}
-use mathlib.Core.Path.{_≡_, refl, sym, ap, subst, _∙_}
+use mathlib.Core.Path.{_≡_, refl, sym, subst, _∙_}
 use mathlib.Core.List.{List}
 use mathlib.Core.Bool.{Bool, true, false, not, true≢false, false≢true}
 use mathlib.Core.Logic.{inl, inr, ⊎-elim, _↔_}
@@ -9,10 +9,10 @@ use lib.Dec.{eqb, ltb}
 use lib.ListN.{getD}
 use borrow.Author.Tests.{eqb-true, eqb-false, ltb-true, ltb-false}
 use Rattle.base_finite.specs.Below.{any}
-use Rattle.base_finite.proofs.Laws.{by-bool, and-both, and-intro, any-found, any-at}
+use Rattle.base_finite.proofs.Laws.{by-bool, and-both, and-intro, any-found}
 use Rattle.base_nodeset.specs.Set.{mem, Empty, Intersection, Removed, Lowest}
 use Rattle.base_nodeset.specs.declared.NodeSet.{NodeSet}
-use Rattle.base_nodeset.proofs.Members.{Small, removed-member, removed-other}
+use Rattle.base_nodeset.proofs.Members.{Small, some-member, no-member, removed-member, removed-other}
 use Rattle.graph.specs.Graph.{Graph, Descent, root, leaf, own}
 use Rattle.graph.specs.Placing.{Unsolvable}
 use Rattle.theory_edges.proofs.Ends.{leaf-below, root-below}
@@ -141,13 +141,9 @@ module _ {sets : List ℕ} {set leaves left left′ : NodeSet} (row both : NodeS
     (is-row : (v : ℕ) → mem row v ≡ inRow sets l v) (is-both : Intersection row set both) (b : Bool) (is : b ≡ not (any 128 (mem both))) where
   pub meets-found : not b ≡ true → Meets sets set leaves true
   meets-found e =
-      let x = any-found 128 (mem both) (not-not (any 128 (mem both)) (ap not (sym is) ∙ e)) in
+      let x = any-found 128 (mem both) (some-member both b is e) in
       let p = and-both (mem row (x .0)) (mem set (x .0)) (sym (is-both (x .0)) ∙ x .2) in
       (λ t. (l, x .0, so .of-leaves l (first .in-set), p .1, sym (is-row (x .0)) ∙ p .0), λ t. refl)
-    where
-      not-not : (c : Bool) → not (not c) ≡ true → c ≡ true
-      not-not true e = refl
-      not-not false e = absurd (false≢true e)
 
   pub meets-more : Small set → not b ≡ false → MeetsSo sets set leaves left′
   meets-more small e =
@@ -157,8 +153,7 @@ module _ {sets : List ℕ} {set leaves left left′ : NodeSet} (row both : NodeS
             by-bool (eqb k l)
             (λ (t : eqb k l ≡ true).
             let here : mem row v ≡ true = is-row v ∙ subst (λ (z : ℕ). inRow sets z v ≡ true) (eqb-true k l t) in-row in
-            let found : any 128 (mem both) ≡ true = any-at 128 (mem both) v (small v in-set) (is-both v ∙ and-intro (mem row v) (mem set v) here in-set) in
-            true≢false (sym (ap not (is ∙ ap not found)) ∙ e))
+            true≢false (sym (is-both v ∙ and-intro (mem row v) (mem set v) here in-set) ∙ no-member both b is e v (small v in-set)))
             (λ (t : eqb k l ≡ false). so .none k v m (sym (removed-other left l left′ (first .others) k (eqb-false k l t)) ∙ out) in-set in-row);
       }
 

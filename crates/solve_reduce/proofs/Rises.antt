@@ -3,12 +3,12 @@
 use Prim.Native.Nat.{ℕ}
 use mathlib.Core.Path.{_≡_, refl, sym, ap, subst, _∙_}
 use mathlib.Core.List.{List}
-use mathlib.Core.Bool.{Bool, true, false, not, _&&_, _||_, true≢false}
+use mathlib.Core.Bool.{true, false, not, _||_, true≢false}
 use mathlib.Core.Logic.{_⊎_, inl, inr, ⊎-elim}
 use native.Mathlib.Omega.{arith}
 use lib.Dec.{eqb}
 use borrow.Author.Tests.{eqb-true, eqb-false, eq-eqb, lt-ltb}
-use Rattle.base_finite.proofs.Laws.{by-bool, and-both, and-intro, or-left, or-right, or-cases}
+use Rattle.base_finite.proofs.Laws.{by-bool, and-true, and-both, and-intro, or-left, or-right, or-cases}
 use Rattle.base_nodeset.specs.Set.{mem, Empty, Only, Inserted, Union, Intersection, Difference, Lowest}
 use Rattle.base_nodeset.specs.declared.NodeSet.{NodeSet}
 use Rattle.base_nodeset.proofs.Members.{removed-member, removed-other}
@@ -33,16 +33,12 @@ use Rattle.solve_reduce.specs.Reduced.{Reduced}
 pub over-rows : (g : Graph) {t : Trees} → TreesOf g t → {sets : List ℕ} → Reduced g (t .n) sets → (a : ℕ) (up r : NodeSet) → Rising (t .n) a sets up → Intersection up (t .leaves) r → OverLeaf g a r
 over-rows g {t} ends {sets} form a up r is-up is-r l =
     let here : leaf g l ≡ true → (mem r l ≡ (eqb l a || inRow sets l a)) = λ h.
-    is-r l ∙ rw (is-up l, ends .leaves-are l, h, lt-ltb l (t .n) (omega (arith, leaf-below g l h, ends .nodes))) (and-true′ (eqb l a || inRow sets l a)) in (
+    is-r l ∙ rw (is-up l, ends .leaves-are l, h, lt-ltb l (t .n) (omega (arith, leaf-below g l h, ends .nodes))) (and-true (eqb l a || inRow sets l a)) in (
       λ m.
           let h : leaf g l ≡ true = sym (ends .leaves-are l) ∙ and-both (mem up l) (mem (t .leaves) l) (sym (is-r l) ∙ m) .1 in
           (h, or-holds (eqb l a) (inRow sets l a) (eqb-holds l a) (form .under l a h) .0 (sym (here h) ∙ m)),
       λ (h, p). here h ∙ or-holds (eqb l a) (inRow sets l a) (eqb-holds l a) (form .under l a h) .1 p,
     )
-  where
-    and-true′ : (b : Bool) → (b && true) ≡ b
-    and-true′ true = refl
-    and-true′ false = refl
 
 -- by the edges
 
