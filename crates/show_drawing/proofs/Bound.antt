@@ -29,7 +29,7 @@ use Rattle.show_drawing.proofs.Texts.{number-length}
 use Rattle.show_drawing.proofs.Runs.{leaf-run, fragment-run, drawing-run}
 
 -- counts of two tests that no number has both of
-count-or : (n : ℕ) (p q : ℕ → Bool) → ((v : ℕ) → p v ≡ true → q v ≡ true → ⊥) → count n (λ v. p v || q v) ≡ count n p + count n q
+pub count-or : (n : ℕ) (p q : ℕ → Bool) → ((v : ℕ) → p v ≡ true → q v ≡ true → ⊥) → count n (λ v. p v || q v) ≡ count n p + count n q
 unfolding count
 count-or zero p q h = refl
 count-or (suc n) p q h =
@@ -64,7 +64,7 @@ module _ (o b : List ℕ) (f : ℕ → List ℕ) (t : ℕ → Bool) (n : ℕ) (s
       rw (e, same, length-append) (omega arith))
 
 -- v is x, or below x
-unfoldable covers : Graph → List ℕ → ℕ → ℕ → Bool
+unfoldable pub covers : Graph → List ℕ → ℕ → ℕ → Bool
 covers g p x v = eqb x v || under g p x v
 
 unfoldable weight : Graph → List ℕ → ℕ → ℕ
@@ -75,7 +75,7 @@ unfoldable covered : Graph → List ℕ → (ℕ → Bool) → ℕ → Bool
 covered g p t v = any (g .nodes) (λ x. t x && covers g p x v)
 
 module _ (g : Graph) (p : List ℕ) (shaped : Shaped g) (forest : Forest (PlacingEdge g p)) where
-  covers-iff : (x v : ℕ) → (covers g p x v ≡ true) ↔ AtOrAbove (PlacingEdge g p) x v
+  pub covers-iff : (x v : ℕ) → (covers g p x v ≡ true) ↔ AtOrAbove (PlacingEdge g p) x v
   unfolding covers
   covers-iff x v = or-holds (eqb x v) (under g p x v) (eqb-holds x v) (under-iff g shaped p x v)
 
@@ -87,7 +87,7 @@ module _ (g : Graph) (p : List ℕ) (shaped : Shaped g) (forest : Forest (Placin
   comparable {x} {y} {v} (inr q) (inr r) = chain forest q r
 
   module _ (t : ℕ → Bool) (level : (x y : ℕ) → t x ≡ true → t y ≡ true → Below g p x y → ⊥) where
-    apart : (x y v : ℕ) → t x ≡ true → t y ≡ true → covers g p x v ≡ true → covers g p y v ≡ true → x ≡ y
+    pub apart : (x y v : ℕ) → t x ≡ true → t y ≡ true → covers g p x v ≡ true → covers g p y v ≡ true → x ≡ y
     apart x y v tx ty a b =
         ⊎-elim
         (λ (i : x ≡ y). i)
@@ -132,7 +132,7 @@ module _ (g : Graph) (p : List ℕ) (shaped : Shaped g) (forest : Forest (Placin
   weight-some u h = omega (arith, count-grows (g .nodes) (λ v. false) (covers g p u) u (λ v _ d. absurd (true≢false (sym d))) h refl (covers-iff u u .1 (inl refl)))
 
   -- roots hung under one leaf
-  hung-level : (l x y : ℕ) → hangs g p l x ≡ true → hangs g p l y ≡ true → Below g p x y → ⊥
+  pub hung-level : (l x y : ℕ) → hangs g p l x ≡ true → hangs g p l y ≡ true → Below g p x y → ⊥
   hung-level l x y hx hy q =
       ⊎-elim
       (λ (i : x ≡ l). irreflexive-path forest (hung-below g p hx) (sym i))
@@ -147,13 +147,13 @@ module _ (g : Graph) (p : List ℕ) (shaped : Shaped g) (forest : Forest (Placin
       rw (leaf-run g p draw l, length-append, length-append) (omega (arith, number .1))
 
   -- leaves of one fragment
-  leaves-level : (r x y : ℕ) → leafOf g r x ≡ true → leafOf g r y ≡ true → Below g p x y → ⊥
+  pub leaves-level : (r x y : ℕ) → leafOf g r x ≡ true → leafOf g r y ≡ true → Below g p x y → ⊥
   leaves-level r x y hx hy q =
       let a = leafOf-parts g r x hx in
       let b = leafOf-parts g r y hy in
       leaf-not-above-own g p shaped forest (a .0) (a .1 ∙ sym (b .1)) q
 
-  leaves-below : (r x : ℕ) → leafOf g r x ≡ true → Below g p r x
+  pub leaves-below : (r x : ℕ) → leafOf g r x ≡ true → Below g p r x
   leaves-below r x h =
       let a = leafOf-parts g r x h in
       tree-below g p (subst (λ (z : ℕ). Path (TreeEdge g) z x) (a .1) (leaf-below-own g shaped x (a .0)))
@@ -169,7 +169,7 @@ module _ (g : Graph) (p : List ℕ) (shaped : Shaped g) (forest : Forest (Placin
       rw (fragment-run g p shaped k r h, length-append, length-append) (omega (arith, number .1))
 
   -- top roots
-  tops-level : (x y : ℕ) → (root g x && eqb (at p x) none) ≡ true → (root g y && eqb (at p y) none) ≡ true → Below g p x y → ⊥
+  pub tops-level : (x y : ℕ) → (root g x && eqb (at p x) none) ≡ true → (root g y && eqb (at p y) none) ≡ true → Below g p x y → ⊥
   tops-level x y hx hy q =
       let b = and-both (root g y) (eqb (at p y) none) hy in
       let l = hangs-where-below g p x y (b .0) q in

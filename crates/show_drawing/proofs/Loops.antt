@@ -1,102 +1,145 @@
--- The loop that stores a run: what it has stored before x, the room for the next text, and the mark before it.
-use Prim.Native.Nat.{ℕ, _+_, _≤_, _<_}
-use mathlib.Core.Path.{_≡_, refl, sym, ap, _∙_}
+-- The loop that draws a run: what it has drawn before x, the room for the next text, and what stands before that.
+use Prim.Native.Nat.{ℕ, _+_, _-_, _≤_, _<_}
+use mathlib.Core.Path.{_≡_, refl, _∙_}
 use mathlib.Core.List.{List, [], _∷_, _++_}
 use mathlib.Core.Bool.{Bool, true, false, cond}
 use native.Mathlib.Omega.{arith}
-use lib.ListN.{length, set}
-use lib.Seq.{length-sets}
+use lib.ListN.{length, length-append}
 use borrow.Author.Tests.{eq-eqb, ne-eqb}
 use Rattle.base_finite.specs.Below.{any}
 use Rattle.base_finite.proofs.Laws.{by-bool, any-more, or-false, or-right}
-use Rattle.base_finite.specs.Stores.{Written}
-use Rattle.base_finite.proofs.Stores.{written-none, written-one, written-more}
-use Rattle.show_drawing.specs.Drawn.{run, joint}
-use Rattle.show_drawing.proofs.Texts.{run-none, run-skip, run-take, run-room, run-empty, run-some}
+use Rattle.base_finite.proofs.Stores.{written-none, written-more, written-length}
+use Rattle.show_drawing.specs.Drawn.{run, sumWhere, joint, Ready, Moved}
+use Rattle.show_drawing.specs.declared.Pen.{Pen}
+use Rattle.show_drawing.proofs.Texts.{run-none, run-skip, run-take, run-room, run-empty, run-some, sum-none, sum-skip, sum-take, sum-room}
 
--- the texts before x are stored, and those up to n have room
-pub record Running (o b : List ℕ) (f : ℕ → List ℕ) (t : ℕ → Bool) (n : ℕ) (old : List ℕ) (start : ℕ) (new : List ℕ) (at x : ℕ) : Type 0 where
+-- a pen moves on
+
+pub moved-none : (pen : Pen) (old : List ℕ) → Moved [] 0 pen old pen old
+moved-none pen old = record { written = written-none old (pen .at); counted = omega arith }
+
+pub moved-long : {text : List ℕ} {size : ℕ} {from : Pen} {old : List ℕ} {pen : Pen} {new : List ℕ} → Moved text size from old pen new → length new ≡ length old
+moved-long m = written-length _ _ _ _ _ (m .written)
+
+-- one text after the other: the fragments of both, and the room that is left for the second
+module _ {a : List ℕ} {s : ℕ} {from : Pen} {old : List ℕ} {mid : Pen} {out : List ℕ} (m : Moved a s from old mid out) (b : List ℕ) {u w : ℕ} where
+  pub moved-more : {pen : Pen} {new : List ℕ} → Moved b u mid out pen new → w ≡ s + u → Moved (a ++ b) w from old pen new
+  moved-more k e =
+      record {
+        written = written-more _ _ _ _ _ _ _ _ (m .written) (k .written);
+        counted = omega (arith, m .counted, k .counted, e);
+      }
+
+  pub ready-more : {n : ℕ} → Ready (a ++ b) w n from old → s + u ≤ w → Ready b u n mid out
+  ready-more r h =
+      let long = length-append a b in
+      record {
+        room = omega (arith, r .room, m .written .after, moved-long m);
+        enough = omega (arith, r .enough, m .counted);
+        few = omega (arith, r .few, m .counted);
+      }
+
+-- the texts before x are drawn, and a pen could go on with those up to n
+pub record Running (o b : List ℕ) (f : ℕ → List ℕ) (size : ℕ → ℕ) (t : ℕ → Bool) (n : ℕ) (old : List ℕ) (from : Pen) (new : List ℕ) (pen : Pen) (x : ℕ) : Type 0 where
   pub few : x ≤ n
   pub long : length new ≡ length old
-  pub room : start + length (run o b f t n) ≤ length old
-  pub so-far : Written old start (run o b f t x) new at
+  pub ready : Ready (run o b f t n) (sumWhere size t n) n from old
+  pub so-far : Moved (run o b f t x) (sumWhere size t x) from old pen new
 
--- the mark before the next text
-pub marked-none : (t : ℕ → Bool) (o b : ℕ) → o ≡ cond (any 0 t) b o
-unfolding any
-marked-none t o b = refl
+module _ {o b : List ℕ} {f : ℕ → List ℕ} {size : ℕ → ℕ} {t : ℕ → Bool} {n : ℕ} {old : List ℕ} {from : Pen} where
+  pub running-none : Ready (run o b f t n) (sumWhere size t n) n from old → Running o b f size t n old from old from 0
+  running-none r =
+      record {
+        few = omega arith;
+        long = refl;
+        ready = r;
+        so-far = record { written = rw run-none (written-none old (from .at)); counted = omega (arith, sum-none size t) };
+      }
 
-pub marked-skip : (t : ℕ → Bool) (o b x mark : ℕ) → t x ≡ false → mark ≡ cond (any x t) b o → mark ≡ cond (any (x + 1) t) b o
-marked-skip t o b x mark e m = m ∙ rw (any-more x t, e, or-false (any x t))
+  module _ {new : List ℕ} {pen : Pen} {x : ℕ} (w : Running o b f size t n old from new pen x) where
+    pub running-skip : x < n → t x ≡ false → Running o b f size t n old from new pen (x + 1)
+    running-skip h e =
+        record { few = omega arith; long = w .long; ready = w .ready; so-far = rw (run-skip o b f t x e, sum-skip size t x e) (w .so-far) }
 
-pub marked-take : (t : ℕ → Bool) (o b x : ℕ) → t x ≡ true → b ≡ cond (any (x + 1) t) b o
-marked-take t o b x e = rw (any-more x t, or-right (any x t) (t x) e)
-
-pub mark-list : (c : Bool) (o b mark : ℕ) → mark ≡ cond c b o → cond c (b ∷ []) (o ∷ []) ≡ mark ∷ []
-mark-list true o b mark e = rw e
-mark-list false o b mark e = rw e
-
-pub mark-first : (c : Bool) (o b mark : ℕ) → mark ≡ cond c b o → mark ≡ o → (b ≡ o → ⊥) → c ≡ false
-mark-first true o b mark e i d = absurd (d (sym e ∙ i))
-mark-first false o b mark e i d = refl
-
-pub mark-other : (c : Bool) (o b mark : ℕ) → mark ≡ cond c b o → (mark ≡ o → ⊥) → c ≡ true
-mark-other true o b mark e d = refl
-mark-other false o b mark e d = absurd (d e)
-
-module _ (o b : List ℕ) (f : ℕ → List ℕ) (t : ℕ → Bool) (n : ℕ) (old : List ℕ) (start : ℕ) where
-  pub running-none : start + length (run o b f t n) ≤ length old → Running o b f t n old start old start 0
-  running-none h = record { few = omega arith; long = refl; room = h; so-far = rw run-none (written-none old start) }
-
-  module _ (new : List ℕ) (at x : ℕ) (w : Running o b f t n old start new at x) where
-    pub running-skip : x < n → t x ≡ false → Running o b f t n old start new at (x + 1)
-    running-skip h e = record { few = omega arith; long = w .long; room = w .room; so-far = rw (run-skip o b f t x e) (w .so-far) }
-
-    pub next-room : x < n → t x ≡ true → at + (length (cond (any x t) b o) + length (f x)) ≤ length new
-    next-room h e =
-        let fits = run-room o b f t x n h e in
-        let after = w .so-far .after in
-        let room = w .room in
-        let long = w .long in
-        omega arith
-
-    pub running-take : (mid : List ℕ) (from : ℕ) (new′ : List ℕ) (at′ : ℕ) → x < n → t x ≡ true → Written new at (cond (any x t) b o) mid from → Written mid from (f x) new′ at′
-        → Running o b f t n old start new′ at′ (x + 1)
-    running-take mid from new′ at′ h e v u =
-        let both = written-more new at (cond (any x t) b o) mid from (f x) new′ at′ v u in
-        record {
-          few = omega arith;
-          long = ap length (both .stored) ∙ length-sets new at (cond (any x t) b o ++ f x) ∙ w .long;
-          room = w .room;
-          so-far = rw (run-take o b f t x e) (written-more old start (run o b f t x) new at (cond (any x t) b o ++ f x) new′ at′ (w .so-far) both);
-        }
-
-    pub running-done : n ≤ x → Written old start (run o b f t n) new at
+    pub running-done : n ≤ x → Moved (run o b f t n) (sumWhere size t n) from old pen new
     running-done h =
         let few = w .few in
         let all : x ≡ n = omega arith in
         rw (← all) (w .so-far)
 
--- one byte before each text
-module _ (o b : ℕ) (f : ℕ → List ℕ) (t : ℕ → Bool) (n : ℕ) (old : List ℕ) (start : ℕ) (new : List ℕ) (at x : ℕ) (w : Running (o ∷ []) (b ∷ []) f t n old start new at x) (h : x < n) (e : t x ≡ true) where
-  pub mark-room : at + 1 + length (f x) ≤ length new
-  mark-room =
-      let long : length (cond (any x t) (b ∷ []) (o ∷ [])) ≡ 1 = by-bool (any x t) (λ d. rw d) (λ d. rw d) in
-      omega (arith, next-room (o ∷ []) (b ∷ []) f t n old start new at x w h e)
+    -- the next text, and what stands before it
+    module _ (h : x < n) (e : t x ≡ true) {before : List ℕ} (i : cond (any x t) b o ≡ before) where
+      next-ready : Ready (before ++ f x) (size x) n pen new
+      next-ready =
+          let long = length-append before (f x) in
+          record {
+            room = omega (arith, rw i at (run-room o b f t x n h e), w .so-far .written .after, w .ready .room, w .long);
+            enough = omega (arith, sum-room size t x n h e, w .so-far .counted, w .ready .enough);
+            few = omega (arith, w .so-far .counted, w .ready .few);
+          }
 
-  pub mark-take : (mark : ℕ) (new′ : List ℕ) (at′ : ℕ) → mark ≡ cond (any x t) b o → Written (set new at mark) (at + 1) (f x) new′ at′ → Running (o ∷ []) (b ∷ []) f t n old start new′ at′ (x + 1)
-  mark-take mark new′ at′ m v =
-      running-take (o ∷ []) (b ∷ []) f t n old start new at x w (set new at mark) (at + 1) new′ at′ h e (rw (mark-list (any x t) o b mark m) (written-one new at mark)) v
+      pub before-room : pen .at + length before ≤ length new
+      before-room = omega (arith, next-ready .room, length-append before (f x))
+
+      module _ {next : Pen} {mid : List ℕ} (v : Moved before 0 pen new next mid) where
+        pub text-ready : Ready (f x) (size x) n next mid
+        text-ready = ready-more v (f x) next-ready (omega arith)
+
+        pub running-take : {last : Pen} {end : List ℕ} → Moved (f x) (size x) next mid last end → Running o b f size t n old from end last (x + 1)
+        running-take {last} {end} u =
+            let both : Moved (before ++ f x) (size x) pen new last end = moved-more v (f x) u (omega arith) in
+            record {
+              few = omega arith;
+              long = moved-long both ∙ w .long;
+              ready = w .ready;
+              so-far = rw (run-take o b f t x e, i) (moved-more (w .so-far) (before ++ f x) both (sum-take size t x e));
+            }
+
+-- a run with the mark o before its first text and b before each other
+pub record Marked (o b : ℕ) (f : ℕ → List ℕ) (size : ℕ → ℕ) (t : ℕ → Bool) (n : ℕ) (old : List ℕ) (from : Pen) (new : List ℕ) (pen : Pen) (mark x : ℕ) : Type 0 where
+  pub running : Running (o ∷ []) (b ∷ []) f size t n old from new pen x
+  pub mark-is : mark ≡ cond (any x t) b o
+
+mark-list : (c : Bool) (o b mark : ℕ) → mark ≡ cond c b o → cond c (b ∷ []) (o ∷ []) ≡ mark ∷ []
+mark-list true o b mark e = rw e
+mark-list false o b mark e = rw e
+
+module _ {o b : ℕ} {f : ℕ → List ℕ} {size : ℕ → ℕ} {t : ℕ → Bool} {n : ℕ} {old : List ℕ} {from : Pen} where
+  pub marked-none : Ready (run (o ∷ []) (b ∷ []) f t n) (sumWhere size t n) n from old → Marked o b f size t n old from old from o 0
+  unfolding any
+  marked-none r = record { running = running-none r; mark-is = refl }
+
+  module _ {new : List ℕ} {pen : Pen} {mark x : ℕ} (w : Marked o b f size t n old from new pen mark x) where
+    pub marked-skip : x < n → t x ≡ false → Marked o b f size t n old from new pen mark (x + 1)
+    marked-skip h e = record { running = running-skip (w .running) h e; mark-is = w .mark-is ∙ rw (any-more x t, e, or-false (any x t)) }
+
+    module _ (h : x < n) (e : t x ≡ true) where
+      before : cond (any x t) (b ∷ []) (o ∷ []) ≡ mark ∷ []
+      before = mark-list (any x t) o b mark (w .mark-is)
+
+      pub marked-room : pen .at < length new
+      marked-room = omega (arith, before-room (w .running) h e before)
+
+      module _ {next : Pen} {mid : List ℕ} (v : Moved (mark ∷ []) 0 pen new next mid) where
+        pub marked-ready : Ready (f x) (size x) n next mid
+        marked-ready = text-ready (w .running) h e before v
+
+        pub marked-take : {last : Pen} {end : List ℕ} → Moved (f x) (size x) next mid last end → Marked o b f size t n old from end last b (x + 1)
+        marked-take u = record { running = running-take (w .running) h e before v u; mark-is = rw (any-more x t, or-right (any x t) (t x) e) }
 
 -- nothing before the first text: what stands before the next is told by whether bytes are stored
-pub joint-is : (f : ℕ → List ℕ) (t : ℕ → Bool) (n : ℕ) (old new : List ℕ) (at x : ℕ) → ((k : ℕ) → 0 < length (f k)) → Running [] (59 ∷ []) f t n old 0 new at x
-    → cond (any x t) (59 ∷ []) [] ≡ joint at
-joint-is f t n old new at x some w =
-    let after : at ≡ 0 + length (run [] (59 ∷ []) f t x) = w .so-far .after in
+pub joint-is : {f : ℕ → List ℕ} {size : ℕ → ℕ} {t : ℕ → Bool} {n : ℕ} {old : List ℕ} {from : Pen} {new : List ℕ} {pen : Pen} {x : ℕ} → Running [] (59 ∷ []) f size t n old from new pen x
+    → ((k : ℕ) → 0 < length (f k)) → from .at ≡ 0 → cond (any x t) (59 ∷ []) [] ≡ joint (pen .at)
+joint-is {f} {size} {t} {n} {old} {from} {new} {pen} {x} w some first =
+    let after : pen .at ≡ from .at + length (run [] (59 ∷ []) f t x) = w .so-far .written .after in
     by-bool (any x t)
     (λ (e : any x t ≡ true).
     let long = run-some [] (59 ∷ []) f t x e some in
-    rw (e, ne-eqb at 0 (λ z. omega arith)))
+    rw (e, ne-eqb (pen .at) 0 (λ z. omega arith)))
     (λ (e : any x t ≡ false).
     let none : length (run [] (59 ∷ []) f t x) ≡ 0 = rw (run-empty [] (59 ∷ []) f t x e) in
-    rw (e, eq-eqb at 0 (omega arith)))
+    rw (e, eq-eqb (pen .at) 0 (omega arith)))
+
+-- one less is left to pass
+pub less-left : {x n : ℕ} → x < n → n - (x + 1) < n - x
+less-left h = omega arith

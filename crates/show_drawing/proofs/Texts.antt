@@ -1,18 +1,22 @@
--- Texts: the parts of a run, of a fragment and of a leaf.
-use Prim.Native.Nat.{ℕ, zero, suc, _+_, _-_, _≤_, _<_}
-use mathlib.Core.Path.{_≡_, refl, _∙_}
+-- Texts and how many fragments they draw: the parts of a run, of a sum and of a fragment.
+use Prim.Native.Nat.{ℕ, zero, suc, _+_, _≤_, _<_}
+use mathlib.Core.Path.{_≡_, refl, sym, _∙_}
 use mathlib.Core.List.{List, [], _∷_, _++_, append-nil}
 use mathlib.Core.Bool.{Bool, true, false, cond}
+use mathlib.Core.Logic.{⊎-elim}
+use native.Mathlib.Numerals.{add-one}
 use native.Mathlib.Omega.{arith}
 use lib.ListN.{length, length-append}
 use Rattle.base_finite.specs.Below.{any, spread}
-use Rattle.base_finite.proofs.Laws.{by-bool, or-none, any-found, spread-more}
+use Rattle.base_finite.proofs.Laws.{last-or-below, by-bool, or-none, any-found, any-ext, spread-more, spread-ext}
 use Rattle.base_finite.proofs.Runs.{spread-longer}
 use Rattle.graph.specs.Graph.{none}
 use Rattle.format.specs.Text.{decimal}
 use Rattle.base_text.proofs.Digits.{decimal-some, decimal-three}
 use Rattle.base_tables.specs.Trees.{innerIn, topIn}
-use Rattle.show_drawing.specs.Drawn.{run, homeIn, leafIn, fragmentIn, leavesIn}
+use Rattle.theory_edges.specs.Edges.{sum}
+use Rattle.theory_edges.proofs.Edges.{sum-ext}
+use Rattle.show_drawing.specs.Drawn.{run, homeIn, leafIn, fragmentIn, sumWhere, sizeIn, leavesIn, leavesSizeIn}
 use Rattle.base_finite.specs.Stores.{entryIs}
 
 -- runs
@@ -54,38 +58,89 @@ module _ (o b : List ℕ) (f : ℕ → List ℕ) (t : ℕ → Bool) where
       let k = any-found x t e in
       omega (arith, run-room (k .0) x (k .1) (k .2), h (k .0))
 
+-- runs of the same texts
+pub run-ext : (o b : List ℕ) (f h : ℕ → List ℕ) (t u : ℕ → Bool) (n : ℕ) → ((x : ℕ) → x < n → t x ≡ u x) → ((x : ℕ) → x < n → u x ≡ true → f x ≡ h x) → run o b f t n ≡ run o b h u n
+unfolding run
+run-ext o b f h t u n same texts =
+    spread-ext n _ _ (λ x l.
+    rw (same x l, any-ext x t u (λ k m. same k (omega arith)))
+    (by-bool (u x) (λ (e : u x ≡ true). rw (e, texts x l e)) (λ (e : u x ≡ false). rw e)))
+
+-- sums
+
+module _ (f : ℕ → ℕ) (t : ℕ → Bool) where
+  pub sum-none : sumWhere f t 0 ≡ 0
+  unfolding sumWhere sum
+  sum-none = refl
+
+  pub sum-skip : (x : ℕ) → t x ≡ false → sumWhere f t (x + 1) ≡ sumWhere f t x
+  unfolding sumWhere sum
+  sum-skip x e = rw (add-one x, e) (omega arith)
+
+  pub sum-take : (x : ℕ) → t x ≡ true → sumWhere f t (x + 1) ≡ sumWhere f t x + f x
+  unfolding sumWhere sum
+  sum-take x e = rw (add-one x, e)
+
+  -- the next is counted where all are
+  pub sum-room : (x n : ℕ) → x < n → t x ≡ true → sumWhere f t x + f x ≤ sumWhere f t n
+  unfolding sumWhere sum
+  sum-room x zero h e = absurd (omega arith)
+  sum-room x (suc n) h e =
+      ⊎-elim
+      (λ (i : x ≡ n). rw (← i, e) (omega arith))
+      (λ (l : x < n). let ih : sumWhere f t x + f x ≤ sumWhere f t n = sum-room x n l e in omega arith)
+      (last-or-below h)
+
+-- sums of the same numbers
+pub sum-where-ext : (f h : ℕ → ℕ) (t u : ℕ → Bool) (n : ℕ) → ((x : ℕ) → x < n → t x ≡ u x) → ((x : ℕ) → x < n → u x ≡ true → f x ≡ h x) → sumWhere f t n ≡ sumWhere h u n
+unfolding sumWhere
+sum-where-ext f h t u n same numbers =
+    sum-ext n _ _ (λ x l.
+    rw (same x l) (by-bool (u x) (λ (e : u x ≡ true). rw (e, numbers x l e)) (λ (e : u x ≡ false). rw e)))
+
 -- texts
 
-pub fragment-none : (k n : ℕ) (home p : List ℕ) (r : ℕ) → k ≡ 0 → fragmentIn k n home p r ≡ []
-unfolding fragmentIn
-fragment-none k n home p r e = rw e
+leaf-ext : (d e : ℕ → List ℕ) (n : ℕ) (p : List ℕ) (l : ℕ) → ((s : ℕ) → s < n → entryIs p l s ≡ true → d s ≡ e s) → leafIn d n p l ≡ leafIn e n p l
+unfolding leafIn
+leaf-ext d e n p l same = rw (run-ext (91 ∷ []) (59 ∷ []) d e (entryIs p l) (entryIs p l) n (λ x h. refl) same)
 
-pub fragment-some : (k n : ℕ) (home p : List ℕ) (r : ℕ) → 0 < k → fragmentIn k n home p r ≡ decimal r ++ leavesIn (k - 1) n home p r n ++ 41 ∷ []
-unfolding fragmentIn
-fragment-some zero n home p r h = absurd (omega arith)
-fragment-some (suc k) n home p r h =
-    let e : suc k - 1 ≡ k = omega arith in
-    rw e
+-- A bound that is no less than a fragment's size cuts nothing: what hangs below it is one fragment less at least.
+module _ (n : ℕ) (home p : List ℕ) where
+  hung-smaller : (k r : ℕ) → sizeIn (suc k) n home p r ≤ suc k → (l : ℕ) → l < n → entryIs home r l ≡ true → (s : ℕ) → s < n → entryIs p l s ≡ true → sizeIn k n home p s ≤ k
+  unfolding sizeIn
+  hung-smaller k r h l hl el s hs es =
+      omega (
+        arith,
+        sum-room (λ l. sumWhere (λ s. sizeIn k n home p s) (entryIs p l) n) (entryIs home r) l n hl el,
+        sum-room (λ s. sizeIn k n home p s) (entryIs p l) s n hs es,
+      )
 
-pub fragment-length : (k n : ℕ) (home p : List ℕ) (r : ℕ) → 0 < k → length (fragmentIn k n home p r) ≡ length (decimal r) + length (leavesIn (k - 1) n home p r n) + 1
-fragment-length k n home p r h = rw (fragment-some k n home p r h, length-append, length-append)
+  uncut : (k r : ℕ) → sizeIn k n home p r ≤ k → (fragmentIn (suc k) n home p r ≡ fragmentIn k n home p r) × (sizeIn (suc k) n home p r ≡ sizeIn k n home p r)
+  unfolding fragmentIn sizeIn
+  uncut zero r h = absurd (omega arith)
+  uncut (suc k) r h = (
+    rw (run-ext (40 ∷ []) (44 ∷ []) (leafIn (λ s. fragmentIn (suc k) n home p s) n p) (leafIn (λ s. fragmentIn k n home p s) n p) (entryIs home r) (entryIs home r) n
+        (λ l _. refl)
+        (λ l hl el. leaf-ext (λ s. fragmentIn (suc k) n home p s) (λ s. fragmentIn k n home p s) n p l (λ s hs es. uncut k s (hung-smaller k r h l hl el s hs es) .0))),
+    rw (sum-where-ext (λ l. sumWhere (λ s. sizeIn (suc k) n home p s) (entryIs p l) n) (λ l. sumWhere (λ s. sizeIn k n home p s) (entryIs p l) n) (entryIs home r) (entryIs home r) n
+        (λ l _. refl)
+        (λ l hl el. sum-where-ext (λ s. sizeIn (suc k) n home p s) (λ s. sizeIn k n home p s) (entryIs p l) (entryIs p l) n (λ s _. refl) (λ s hs es. uncut k s (hung-smaller k r h l hl el s hs es) .1))),
+  )
 
-module _ (draw : ℕ → List ℕ) (n : ℕ) (p : List ℕ) (l : ℕ) where
-  pub leaf-length : length (leafIn draw n p l) ≡ length (decimal l) + length (run (91 ∷ []) (59 ∷ []) draw (entryIs p l) n) + cond (any n (entryIs p l)) 1 0
-  unfolding leafIn
-  leaf-length = rw (length-append, length-append) (by-bool (any n (entryIs p l)) (λ e. rw e) (λ e. rw e))
+  module _ (r : ℕ) (h : sizeIn n n home p r ≤ n) where
+    pub fragment-some : fragmentIn n n home p r ≡ decimal r ++ leavesIn n home p r ++ 41 ∷ []
+    unfolding fragmentIn
+    fragment-some = sym (uncut n r h .0)
 
-  pub leaf-plain : any n (entryIs p l) ≡ false → leafIn draw n p l ≡ decimal l ++ run (91 ∷ []) (59 ∷ []) draw (entryIs p l) n
-  unfolding leafIn
-  leaf-plain e = rw e (append-nil (decimal l ++ run (91 ∷ []) (59 ∷ []) draw (entryIs p l) n))
+    pub size-some : sizeIn n n home p r ≡ 1 + leavesSizeIn n home p r
+    unfolding sizeIn
+    size-some = sym (uncut n r h .1)
 
-  pub leaf-hung : any n (entryIs p l) ≡ true → leafIn draw n p l ≡ decimal l ++ run (91 ∷ []) (59 ∷ []) draw (entryIs p l) n ++ 93 ∷ []
-  unfolding leafIn
-  leaf-hung e = rw e
-
--- where a fragment may hang, its text is not empty
+-- a text of a fragment is not empty
 pub fragment-long : (k n : ℕ) (home p : List ℕ) → 0 < k → (r : ℕ) → 0 < length (fragmentIn k n home p r)
-fragment-long k n home p h r = omega (arith, fragment-length k n home p r h)
+unfolding fragmentIn
+fragment-long zero n home p h r = absurd (omega arith)
+fragment-long (suc k) n home p h r = rw (length-append, length-append) (omega arith)
 
 -- homes
 

@@ -1,31 +1,33 @@
--- A byte is stored where some stand before it.
+-- A byte is written where some stand before it.
 use Prim.Native.Nat.{_+_, _≤_}
 use native.Mathlib.Omega.{arith}
 use denote.Ref.{now}
 use lib.ListN.{length}
 use borrow.Author.Tests.{eq-eqb, ne-eqb}
-use Rattle.base_finite.proofs.Stores.{written-none, written-one}
+use Rattle.show_drawing.proofs.Loops.{moved-none}
 use borrow.Author.Needs.{needs}
 use Rattle.show_drawing.proofs.join.Statement.{statement}
 use Rattle.show_drawing.proofs.join.Tie as tie
 
 returns : tie.Need-returns
-returns c = rw (eq-eqb (c .before .args .at) 0 (c .if1 .taken)) (written-none _ _)
+returns c = rw (eq-eqb (c .before .before .before .args .pen .at) 0 (c .if1 .taken)) (moved-none _ _)
 
-slice-write-out : tie.Need-slice-write-out
-slice-write-out c =
-    let a = c .before in
-    let fits : a .args .at + 1 ≤ length (now (a .args .out)) = rw (ne-eqb (a .args .at) 0 (c .if1 .left)) at (a .pre) in
+put-requires : tie.Need-put-requires
+put-requires c κs =
+    let fits : c .before .before .before .before .args .pen .at + 1 ≤ length (now (c .before .before .before .before .args .out)) = rw (ne-eqb (c .before .before .before .before .args .pen .at) 0 (c .before .if1 .left)) at (c .before .before .before .before .pre) in
     omega arith
-
-add-result : tie.Need-add-result
-add-result c = search needs
 
 same-length : tie.Need-same-length
 same-length c = search needs
 
 returns-2 : tie.Need-returns-2
-returns-2 c = rw (ne-eqb (c .before .args .at) 0 (c .if1 .left)) (written-one _ _ 59)
+returns-2 c = rw (ne-eqb (c .before .before .before .before .before .before .before .args .pen .at) 0 (c .before .before .before .before .if1 .left)) (c .before .before .put .ensures)
 
 pub join-spec : {M : Type 1} → statement M
-join-spec = tie.close (tie.spec returns slice-write-out add-result same-length returns-2)
+join-spec =
+    tie.close
+    (tie.spec
+    returns
+    put-requires
+    same-length
+    returns-2)
