@@ -4,3 +4,4 @@ pub mod Runs
 pub mod Judges
 pub mod Whole
 pub mod Answers
+pub mod Again

@@ -1,35 +1,59 @@
--- What a turn says of `commands`: the tests on the tables are the tests on the edges that they hold, and a table with
+-- What a turn says of `outcomeAfter`: the tests on the tables are the tests on the edges that they hold, and a table with
 -- the edge put in holds one edge more.
 use Prim.Native.Nat.{ℕ, _+_, _≤_, _<_}
-use mathlib.Core.Path.{_≡_, sym, _∙_}
-use mathlib.Core.List.{List, _∷_}
+use mathlib.Core.Path.{_≡_, refl, sym, _∙_}
+use mathlib.Core.List.{List, [], _∷_}
 use mathlib.Core.Bool.{true, false, not, _||_, _&&_}
 use mathlib.Core.Logic.{⊎-elim}
 use native.Mathlib.Numerals.{add-one}
 use native.Mathlib.Omega.{arith}
 use lib.Dec.{eqb, leb}
-use lib.ListN.{length, getD, set, drop, length-set}
+use lib.ListN.{length, getD, set, length-set}
 use lib.Seq.{getD-set-same, getD-set-other}
+use types.Run.{OneOf}
+use denote.Enum.Declared.{tagOf}
 use borrow.Author.Tests.{le-leb, eqb-true, eqb-false}
 use Rattle.base_nodeset.specs.Set.{Inserted}
 use Rattle.base_nodeset.specs.declared.NodeSet.{NodeSet}
 use Rattle.base_tables.specs.Rows.{inRow, IsRow, RowPut}
 use Rattle.base_finite.proofs.Laws.{by-bool, or-right, or-none, eqb-sym}
 use Rattle.graph.specs.Graph.{Edge, among, entered, single, parent, none}
-use Rattle.format.specs.Sheet.{beyond, commands}
-use Rattle.format.specs.declared.Refusal.{Refusal}
-use Rattle.format.specs.declared.Refusal.the-variants.{Range, Tree as TreeRefusal, Repeated, TooMany}
+use Rattle.format.specs.Sheet.{beyond}
+use Rattle.format.specs.declared.Refusal.the-variants.{Command, Range, Tree as TreeRefusal, Repeated, TooMany}
 use Rattle.theory_edges.specs.Edges.{Within}
 use Rattle.theory_format.proofs.Spelling.{not-beyond}
 use Rattle.theory_edges.proofs.Edges.{among-cases}
-use Rattle.sheet_decode.specs.Step.{stepOf}
-use Rattle.sheet_decode.specs.declared.command.Step.the-variants.{Tree, Dominance, End, Refused as StepRefused}
+use Rattle.sheet_decode.proofs.command.Step.{the-type}
+use Rattle.sheet_decode.specs.declared.command.Step.{Step}
+use Rattle.sheet_decode.specs.declared.command.Step.the-variants.{Nodes, Tree, Dominance, End, Refused as StepRefused}
 use Rattle.base_tables.specs.Tables.{Holds}
 use Rattle.base_tables.proofs.Parents.{parent-tells}
-use Rattle.sheet_decode.specs.Turn.{Turned, treeAnswer, dominanceAnswer, ParentsAfter, HeadsAfter}
-use Rattle.sheet_decode.specs.declared.turn.Turn.{Turn}
-use Rattle.sheet_decode.specs.declared.turn.Turn.the-variants.{Next, Ended, Refused}
-use Rattle.sheet_decode.proofs.Steps.{taken, commands-step}
+use Rattle.sheet_decode.specs.Turn.{stopOf, begun, outcomeAfter, Past, Reached, treeAnswer, dominanceAnswer, ParentsAfter, HeadsAfter}
+use Rattle.sheet_decode.specs.declared.turn.Run.{Run}
+use Rattle.sheet_decode.specs.declared.turn.Run.the-variants.{Going, Ended, Refused}
+
+-- the first command
+
+pub stop-other : (x : Step) → OneOf (0 ∷ 1 ∷ 2 ∷ 3 ∷ []) (tagOf the-type x) → Refused Command ≡ stopOf x
+stop-other (Nodes n) o = refl
+stop-other (Tree p c) o = refl
+stop-other (Dominance l r) o = refl
+stop-other End o = refl
+stop-other (StepRefused why) o = absurd (⊎-elim (λ q. omega arith) (⊎-elim (λ q. omega arith) (⊎-elim (λ q. omega arith) (λ q. omega arith))) o)
+
+pub stop-begun : (x : Step) → OneOf (1 ∷ 2 ∷ 3 ∷ 4 ∷ []) (tagOf the-type x) → stopOf x ≡ begun x
+stop-begun (Nodes n) o = absurd (⊎-elim (λ q. omega arith) (⊎-elim (λ q. omega arith) (⊎-elim (λ q. omega arith) (λ q. omega arith))) o)
+stop-begun (Tree p c) o = refl
+stop-begun (Dominance l r) o = refl
+stop-begun End o = refl
+stop-begun (StepRefused why) o = refl
+
+-- the later ones
+
+pub wide : (k : ℕ) (x : Run) → 0 < k → Past k x
+wide k (Going n edges) h = h
+wide k (Ended n edges) h = tt
+wide k (Refused why) h = tt
 
 pub beyond-first : (n x y : ℕ) → n ≤ x → beyond n x y ≡ true
 unfolding beyond
@@ -56,7 +80,7 @@ within-more n x y es e w u v a =
     (λ (m : among es u v ≡ true). w u v m)
     (among-cases (x, y) es u v a)
 
-module _ (n : ℕ) (t d : List Edge) (bs parents low high : List ℕ) (edges : ℕ) (few : n ≤ 128) (holds : Holds n t d parents low high edges) where
+module _ (n : ℕ) (t d : List Edge) (rest parents low high : List ℕ) (edges : ℕ) (few : n ≤ 128) (holds : Holds n t d parents low high edges) where
   tree-more : (p c : ℕ) → beyond n p c ≡ false → entered t c ≡ false → Holds n ((p, c) ∷ t) d (set parents c p) low high edges
   unfolding parent single
   tree-more p c b u =
@@ -82,28 +106,25 @@ module _ (n : ℕ) (t d : List Edge) (bs parents low high : List ℕ) (edges : �
           (λ (e : eqb c v ≡ false).
           rw (e, getD-set-other parents c v p 0 (λ q. eqb-false c v e (sym q)), holds .parent-is v h))
 
-  pub tree-turn : (p c : ℕ) (x : Turn) (after : List ℕ) → stepOf bs ≡ Tree p c → x ≡ treeAnswer n p c edges parents → ParentsAfter p c x parents after
-      → Turned n t d bs edges x after low high
-  unfolding Turned taken
-  tree-turn p c x after s e a =
-      let step : commands n t d bs ≡ taken n t d (drop 3 bs) (Tree p c) = commands-step n t d bs ∙ rw s in
+  pub tree-turn : (p c : ℕ) (x : Run) (after : List ℕ) → x ≡ treeAnswer n p c edges parents → ParentsAfter p c x parents after
+      → Reached (outcomeAfter n t d rest (Tree p c)) rest x after low high
+  unfolding Reached outcomeAfter
+  tree-turn p c x after e a =
       by-bool (beyond n p c)
-      (λ (b : beyond n p c ≡ true). let q : x ≡ Refused Range = e ∙ rw b in rw q (step ∙ rw b))
+      (λ (b : beyond n p c ≡ true). let q : x ≡ Refused Range = e ∙ rw b in rw (q, b))
       (λ (b : beyond n p c ≡ false).
       let w = not-beyond n p c b in
       let same : not (eqb (getD parents c 0) none) ≡ entered t c =
       rw (holds .parent-is c (omega (arith, w .1))) (sym (parent-tells n t c few (holds .tree-within))) in
       by-bool (eqb p c || entered t c)
-      (λ (f : (eqb p c || entered t c) ≡ true).
-      let q : x ≡ Refused TreeRefusal = e ∙ rw (b, same, f) in
-      rw q (step ∙ rw (b, f)))
+      (λ (f : (eqb p c || entered t c) ≡ true). let q : x ≡ Refused TreeRefusal = e ∙ rw (b, same, f) in rw (q, b, f))
       (λ (f : (eqb p c || entered t c) ≡ false).
-      let q : x ≡ Next edges = e ∙ rw (b, same, f) in
+      let q : x ≡ Going n edges = e ∙ rw (b, same, f) in
       let put : after ≡ set parents c p = rw q at a in
-      rw (q, put) ((p, c) ∷ t, d, step ∙ rw (b, f), tree-more p c b (or-none (eqb p c) (entered t c) f .1))))
+      rw (q, put, b, f) ((p, c) ∷ t, d, few, refl, tree-more p c b (or-none (eqb p c) (entered t c) f .1))))
 
   dominance-more : (l r : ℕ) (low′ high′ : List ℕ) → beyond n l r ≡ false → length low′ ≡ length low → length high′ ≡ length high
-      → HeadsAfter l r (Next (edges + 1)) low high low′ high′ → Holds n t ((l, r) ∷ d) parents low′ high′ (edges + 1)
+      → HeadsAfter l r (Going n (edges + 1)) low high low′ high′ → Holds n t ((l, r) ∷ d) parents low′ high′ (edges + 1)
   unfolding among
   dominance-more l r low′ high′ b el eh a =
       record {
@@ -118,30 +139,26 @@ module _ (n : ℕ) (t d : List Edge) (bs parents low high : List ℕ) (edges : �
         edges-are = rw (holds .edges-are) (add-one (length d));
       }
 
-  pub dominance-turn : (l r : ℕ) (x : Turn) (low′ high′ : List ℕ) → length low′ ≡ length low → length high′ ≡ length high → stepOf bs ≡ Dominance l r
-      → x ≡ dominanceAnswer n l r edges low high → HeadsAfter l r x low high low′ high′ → Turned n t d bs edges x parents low′ high′
-  unfolding Turned taken
-  dominance-turn l r x low′ high′ el eh s e a =
-      let step : commands n t d bs ≡ taken n t d (drop 3 bs) (Dominance l r) = commands-step n t d bs ∙ rw s in
+  pub dominance-turn : (l r : ℕ) (x : Run) (low′ high′ : List ℕ) → length low′ ≡ length low → length high′ ≡ length high
+      → x ≡ dominanceAnswer n l r edges low high → HeadsAfter l r x low high low′ high′ → Reached (outcomeAfter n t d rest (Dominance l r)) rest x parents low′ high′
+  unfolding Reached outcomeAfter
+  dominance-turn l r x low′ high′ el eh e a =
       let same = holds .heads-are l r in
       let long = holds .edges-are in
       by-bool (beyond n l r)
-      (λ (b : beyond n l r ≡ true). let q : x ≡ Refused Range = e ∙ rw b in rw q (step ∙ rw b))
+      (λ (b : beyond n l r ≡ true). let q : x ≡ Refused Range = e ∙ rw b in rw (q, b))
       (λ (b : beyond n l r ≡ false).
       by-bool (among d l r)
-      (λ (f : among d l r ≡ true). let q : x ≡ Refused Repeated = e ∙ rw (b, same, f) in rw q (step ∙ rw (b, f)))
+      (λ (f : among d l r ≡ true). let q : x ≡ Refused Repeated = e ∙ rw (b, same, f) in rw (q, b, f))
       (λ (f : among d l r ≡ false).
       by-bool (leb 255 edges)
-      (λ (m : leb 255 edges ≡ true). let q : x ≡ Refused TooMany = e ∙ rw (b, same, f, m) in rw q (step ∙ rw (b, f, ← long, m)))
+      (λ (m : leb 255 edges ≡ true). let q : x ≡ Refused TooMany = e ∙ rw (b, same, f, m) in rw (q, b, f, ← long, m))
       (λ (m : leb 255 edges ≡ false).
-      let q : x ≡ Next (edges + 1) = e ∙ rw (b, same, f, m) in
-      let put : HeadsAfter l r (Next (edges + 1)) low high low′ high′ = rw q at a in
-      rw q (t, (l, r) ∷ d, step ∙ rw (b, f, ← long, m), dominance-more l r low′ high′ b el eh put))))
+      let q : x ≡ Going n (edges + 1) = e ∙ rw (b, same, f, m) in
+      let put : HeadsAfter l r (Going n (edges + 1)) low high low′ high′ = rw q at a in
+      let least : leb 255 (length d) ≡ false = rw (← long) m in
+      rw (q, b, f, least) (t, (l, r) ∷ d, few, refl, dominance-more l r low′ high′ b el eh put))))
 
-  pub end-turn : stepOf bs ≡ End → Turned n t d bs edges Ended parents low high
-  unfolding Turned taken
-  end-turn s = (commands-step n t d bs ∙ rw s, holds)
-
-  pub refused-turn : (why : Refusal) → stepOf bs ≡ StepRefused why → Turned n t d bs edges (Refused why) parents low high
-  unfolding Turned taken
-  refused-turn why s = commands-step n t d bs ∙ rw s
+  pub end-turn : Reached (outcomeAfter n t d rest End) rest (Ended n edges) parents low high
+  unfolding Reached outcomeAfter
+  end-turn = (t, d, few, refl, holds)

@@ -1,39 +1,38 @@
 -- A whole sheet, decoded.
 use Prim.Native.Nat.{ℕ}
 use mathlib.Core.Path.{_≡_}
-use mathlib.Core.List.{List, [], _∷_}
-use mathlib.Core.Bool.{cond, _&&_}
-use lib.Dec.{eqb, leb}
+use mathlib.Core.List.{List, []}
 use Rattle.graph.specs.Graph as spec
-use Rattle.format.specs.Sheet.{Outcome, refused, accepted, commands, outcome}
-use Rattle.format.specs.declared.Refusal.the-variants.{Missing, Command, Range}
+use Rattle.format.specs.Sheet.{Outcome, refused, accepted, outcome}
 use Rattle.base_tables.specs.Tables.{Holds}
+use Rattle.sheet_decode.specs.declared.judge.Verdict.{Verdict}
 use Rattle.sheet_decode.specs.declared.judge.Verdict.the-variants.{Accepted, Refused as VerdictRefused}
-use Rattle.sheet_decode.specs.declared.read.Header.{Header}
-use Rattle.sheet_decode.specs.declared.read.Header.the-variants.{Nodes, Refused as HeaderRefused}
+use Rattle.sheet_decode.specs.declared.turn.Run.{Run}
+use Rattle.sheet_decode.specs.declared.turn.Run.the-variants.{Going, Ended, Refused as RunRefused}
 use Rattle.sheet_decode.specs.declared.read.Decoded.{Decoded}
 use Rattle.sheet_decode.specs.declared.read.Decoded.the-variants.{Filled, Refused}
 use Rattle.sheet_decode.specs.declared.read.Graph.{Graph}
 use Rattle.sheet_decode.specs.declared.read.Answer.{Answer}
 
--- the first command
-unfoldable pub headerOf : List ℕ → Header
-headerOf [] = HeaderRefused Missing
-headerOf (b ∷ []) = HeaderRefused (cond (eqb b 1) Missing Command)
-headerOf (b ∷ n ∷ rest) = cond (eqb b 1) (cond (leb 2 n && leb n 128) (Nodes n) (HeaderRefused Range)) (HeaderRefused Command)
-
 -- tables that hold no edge
 abbrev pub Blank : List ℕ → List ℕ → List ℕ → Type 0
 Blank parents low high = (n : ℕ) → Holds n [] [] parents low high 0
+
+-- the refusal, where there is one
+abbrev pub stopOf : Run → Decoded
+stopOf (Going n k) = Filled n k
+stopOf (Ended n k) = Filled n k
+stopOf (RunRefused why) = Refused why
+
+abbrev pub unacceptedOf : Verdict → Decoded
+unacceptedOf Accepted = Filled 0 0
+unacceptedOf (VerdictRefused why) = Refused why
 
 -- What decoding says of an outcome: its refusal, or that the tables hold the graph.
 unfoldable pub Decodes : Outcome → Decoded → List ℕ → List ℕ → List ℕ → Type 0
 Decodes o (Refused why) parents low high = o ≡ refused why
 Decodes o (Filled n k) parents low high =
     (g : spec.Graph) × (o ≡ accepted g) × (g .nodes ≡ n) × Holds n (g .tree) (g .dominance) parents low high k
-
-abbrev pub Spelt : ℕ → List ℕ → Decoded → List ℕ → List ℕ → List ℕ → Type 0
-Spelt n bs x parents low high = Decodes (commands n [] [] bs) x parents low high
 
 abbrev pub Decoding : List ℕ → Decoded → List ℕ → List ℕ → List ℕ → Type 0
 Decoding bs x parents low high = Decodes (outcome bs) x parents low high

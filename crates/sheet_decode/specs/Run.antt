@@ -1,31 +1,25 @@
--- All commands after the first, taken.
-use Prim.Native.Nat.{ℕ}
-use mathlib.Core.Path.{_≡_}
+-- All commands of a sheet, taken.
+use Prim.Native.Nat.{ℕ, suc, _-_}
 use mathlib.Core.List.{List, []}
-use lib.ListN.{drop}
-use Rattle.graph.specs.Graph.{Edge}
-use Rattle.format.specs.Sheet.{refused, whole, commands}
-use Rattle.base_tables.specs.Tables.{Holds}
-use Rattle.sheet_decode.specs.declared.turn.Turn.{Turn}
-use Rattle.sheet_decode.specs.declared.turn.Turn.the-variants.{Next, Ended as TurnEnded, Refused as TurnRefused}
-use Rattle.sheet_decode.specs.declared.run.Run.{Run}
-use Rattle.sheet_decode.specs.declared.run.Run.the-variants.{Ended, Refused}
+use lib.ListN.{length, drop}
+use Rattle.format.specs.Sheet.{outcome}
+use Rattle.sheet_decode.specs.Turn.{Reached, Past}
+use Rattle.sheet_decode.specs.declared.turn.Run.{Run}
+use Rattle.sheet_decode.specs.declared.turn.Run.the-variants.{Going, Ended, Refused}
 
--- the answer where no command follows
-abbrev pub stopOf : Turn → ℕ → Run
-stopOf (Next k) edges = Ended k
-stopOf TurnEnded edges = Ended edges
-stopOf (TurnRefused why) edges = Refused why
+-- A run at offset `at` of the sheet s.
+pub record Running (s : List ℕ) (at : ℕ) (run : Run) (parents low high : List ℕ) : Type 0 where
+  pub past : Past at run
+  pub reached : Reached (outcome s) (drop at s) run parents low high
 
--- What the walk over the bytes bs says of `commands`: a refusal, or the graph whose edges the tables hold.
-unfoldable pub Ran : ℕ → List ℕ → Run → List ℕ → List ℕ → List ℕ → Type 0
-Ran n bs (Ended k) parents low high =
-    (t : List Edge) × (d : List Edge) × (commands n [] [] bs ≡ whole (record { nodes = n; tree = t; dominance = d })) × Holds n t d parents low high k
-Ran n bs (Refused why) parents low high = commands n [] [] bs ≡ refused why
+-- so many bytes are left to a run, and the end
+abbrev pub leftOf : List ℕ → ℕ → Run → ℕ
+leftOf s at (Going n k) = suc (length s - at)
+leftOf s at (Ended n k) = 0
+leftOf s at (Refused why) = 0
 
--- At offset `at` of the sheet s, with the tables that hold what has been read up to there.
-pub record Running (n : ℕ) (s parents low high : List ℕ) (at edges : ℕ) : Type 0 where
-  pub tree : List Edge
-  pub dominance : List Edge
-  pub so-far : commands n [] [] (drop 2 s) ≡ commands n tree dominance (drop at s)
-  pub holds : Holds n tree dominance parents low high edges
+-- What a run that is over says of the sheet's outcome.
+unfoldable pub Ran : List ℕ → Run → List ℕ → List ℕ → List ℕ → Type 0
+Ran s (Going n k) parents low high = ⊥
+Ran s (Ended n k) parents low high = Reached (outcome s) [] (Ended n k) parents low high
+Ran s (Refused why) parents low high = Reached (outcome s) [] (Refused why) parents low high

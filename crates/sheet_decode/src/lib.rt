@@ -1,7 +1,7 @@
 // Bytes to a graph: decoding, refusals 1 to 8.
-pub mod command;
+mod command;
 pub mod judge;
 pub mod read;
-pub mod reader;
+mod reader;
 mod run;
 mod turn;

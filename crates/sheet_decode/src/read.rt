@@ -1,22 +1,13 @@
 // A whole sheet: the graph that it spells, or its refusal.
 use crate::judge::Verdict;
 use crate::judge::judge;
-use crate::run::Run;
 use crate::run::commands;
+use crate::turn::Run;
 use format::Refusal;
 use graph::NONE;
 ghost use mathlib.Core.Path.{_≡_};
-ghost use mathlib.Core.List.{[]};
-ghost use Prim.Native.Nat.{_≤_};
-ghost use lib.ListN.{drop};
 ghost use Rattle.format.specs.Sheet.{outcome};
-ghost use Rattle.base_tables.specs.Tables.{Holds};
-ghost use Rattle.sheet_decode.specs.Read.{headerOf, Blank, Spelt, Decoding, Reads};
-
-pub enum Header {
-    Nodes(usize),
-    Refused(Refusal),
-}
+ghost use Rattle.sheet_decode.specs.Read.{Blank, stopOf, unacceptedOf, Decoding, Reads};
 
 pub enum Decoded {
     // The number of nodes and of dominance edges.
@@ -40,40 +31,24 @@ pub struct Answer {
     pub graph: Graph,
 }
 
-// 0x01 n, the first command.
-fn first_command(sheet: &[u8]) -> Header
-    ensures { λ r. ⌜ r ≡ headerOf (now (sheet .entry)) ⌝ }
+// A run that has not ended is refused.
+fn stop(run: Run) -> Decoded
+    ensures { λ r. ⌜ r ≡ stopOf run ⌝ }
 {
-    if sheet.len() == 0 {
-        return Header::Refused(Refusal::Missing);
+    match run {
+        Run::Refused(why) => Decoded::Refused(why),
+        Run::Going(n, edges) => Decoded::Filled(n, edges),
+        Run::Ended(n, edges) => Decoded::Filled(n, edges),
     }
-    if sheet[0] != 1 {
-        return Header::Refused(Refusal::Command);
-    }
-    if sheet.len() == 1 {
-        return Header::Refused(Refusal::Missing);
-    }
-    let n = sheet[1] as usize;
-    if n < 2 {
-        return Header::Refused(Refusal::Range);
-    }
-    if 128 < n {
-        return Header::Refused(Refusal::Range);
-    }
-    Header::Nodes(n)
 }
 
-// The commands after the first, and the tests of the whole.
-fn body(sheet: &[u8], n: usize, parent: &mut [u8], low: &mut [u64], high: &mut [u64]) -> Decoded
-    requires { ⌜ (n ≤ 128) × Holds n [] [] (now parent) (now low) (now high) 0 ⌝ }
-    ensures { λ x. ⌜ Spelt n (drop 2 (now (sheet .entry))) x (now (parent .exit)) (now (low .exit)) (now (high .exit)) ⌝ }
+// What is not accepted is refused.
+fn unaccepted(verdict: Verdict) -> Decoded
+    ensures { λ r. ⌜ r ≡ unacceptedOf verdict ⌝ }
 {
-    match commands(sheet, n, parent, low, high) {
-        Run::Refused(why) => Decoded::Refused(why),
-        Run::Ended(edges) => match judge(n, parent, low, high) {
-            Verdict::Refused(why) => Decoded::Refused(why),
-            Verdict::Accepted => Decoded::Filled(n, edges),
-        },
+    match verdict {
+        Verdict::Refused(why) => Decoded::Refused(why),
+        Verdict::Accepted => Decoded::Filled(0, 0),
     }
 }
 
@@ -82,10 +57,15 @@ pub fn decode_into(sheet: &[u8], parent: &mut [u8], low: &mut [u64], high: &mut 
     requires { ⌜ Blank (now parent) (now low) (now high) ⌝ }
     ensures { λ x. ⌜ Decoding (now (sheet .entry)) x (now (parent .exit)) (now (low .exit)) (now (high .exit)) ⌝ }
 {
-    match first_command(sheet) {
-        Header::Refused(why) => Decoded::Refused(why),
-        Header::Nodes(n) => body(sheet, n, parent, low, high),
-    }
+    let run = commands(sheet, parent, low, high);
+    let Run::Ended(n, edges) = run else {
+        return stop(run);
+    };
+    let verdict = judge(n, parent, low, high);
+    let Verdict::Accepted = verdict else {
+        return unaccepted(verdict);
+    };
+    Decoded::Filled(n, edges)
 }
 
 pub fn read(sheet: &[u8]) -> Answer

@@ -1,33 +1,31 @@
 // The lent bytes of a sheet, and an offset into them.
 use crate::command::Step;
-use crate::command::decode;
+use crate::command::pass;
 ghost use mathlib.Core.Path.{_≡_};
-ghost use lib.ListN.{drop};
-ghost use Rattle.sheet_decode.specs.Step.{stepOf};
+ghost use Rattle.sheet_decode.specs.Reader.{takenBy};
 
 pub struct Reader<'a> {
     pub sheet: &'a [u8],
     pub at: usize,
 }
 
-impl<'a> Reader<'a> {
-    pub fn new(sheet: &'a [u8], at: usize) -> Reader<'a>
-        ensures { λ r. ⌜ (r .sheet ≡ sheet .entry) × (r .at ≡ at) ⌝ }
-    {
-        Reader { sheet, at }
-    }
-
-    // The command that it stands at.
-    pub fn next(self) -> Step
-        ensures { λ s. ⌜ s ≡ stepOf (drop (self .entry .at) (now (self .entry .sheet))) ⌝ }
-    {
-        decode(self.sheet, self.at)
-    }
+// A command, and the reader moved on.
+pub struct Taken<'a> {
+    pub step: Step,
+    pub reader: Reader<'a>,
 }
 
-// The command at `at`, through a reader. Its parameters are plain: who calls it is proved without a hand proof.
-pub fn command(sheet: &[u8], at: usize) -> Step
-    ensures { λ r. ⌜ r ≡ stepOf (drop at (now (sheet .entry))) ⌝ }
-{
-    Reader::new(sheet, at).next()
+impl<'a> Reader<'a> {
+    pub fn next(self) -> Taken<'a>
+        ensures { λ r. ⌜ r ≡ takenBy (self .entry) ⌝ }
+    {
+        let passed = pass(self.sheet, self.at);
+        Taken {
+            step: passed.step,
+            reader: Reader {
+                sheet: self.sheet,
+                at: passed.at,
+            },
+        }
+    }
 }

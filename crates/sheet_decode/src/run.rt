@@ -1,42 +1,24 @@
-// All commands of a sheet after the first, one after the other.
-use crate::turn::Turn;
-use crate::turn::take;
-use format::Refusal;
-ghost use mathlib.Core.Path.{_≡_};
-ghost use mathlib.Core.List.{[]};
-ghost use Prim.Native.Nat.{_≤_};
-ghost use lib.ListN.{drop};
-ghost use Rattle.base_tables.specs.Tables.{Holds};
-ghost use Rattle.sheet_decode.specs.Run.{Ran, stopOf};
+// All commands of a sheet, one after the other.
+use crate::reader::Reader;
+use crate::turn::Run;
+use crate::turn::begin;
+use crate::turn::turn;
+ghost use Rattle.sheet_decode.specs.Run.{Ran};
+ghost use Rattle.sheet_decode.specs.Read.{Blank};
 
-pub enum Run {
-    // The number of dominance edges.
-    Ended(usize),
-    Refused(Refusal),
-}
-
-fn stop(turn: Turn, edges: usize) -> Run
-    ensures { λ r. ⌜ r ≡ stopOf turn edges ⌝ }
+pub fn commands(sheet: &[u8], parent: &mut [u8], low: &mut [u64], high: &mut [u64]) -> Run
+    requires { ⌜ Blank (now parent) (now low) (now high) ⌝ }
+    ensures { λ x. ⌜ Ran (now (sheet .entry)) x (now (parent .exit)) (now (low .exit)) (now (high .exit)) ⌝ }
 {
-    match turn {
-        Turn::Refused(why) => Run::Refused(why),
-        Turn::Ended => Run::Ended(edges),
-        Turn::Next(more) => Run::Ended(more),
-    }
-}
-
-pub fn commands(sheet: &[u8], n: usize, parent: &mut [u8], low: &mut [u64], high: &mut [u64]) -> Run
-    requires { ⌜ (n ≤ 128) × Holds n [] [] (now parent) (now low) (now high) 0 ⌝ }
-    ensures { λ x. ⌜ Ran n (drop 2 (now (sheet .entry))) x (now (parent .exit)) (now (low .exit)) (now (high .exit)) ⌝ }
-{
-    let mut at = 2;
-    let mut edges = 0;
+    let first = Reader { sheet, at: 0 }.next();
+    let mut run = begin(first.step);
+    let mut reader = first.reader;
     loop {
-        let turn = take(sheet, at, n, edges, parent, low, high);
-        let Turn::Next(more) = turn else {
-            return stop(turn, edges);
+        let Run::Going(n, edges) = run else {
+            return run;
         };
-        edges = more;
-        at += 3;
+        let taken = reader.next();
+        run = turn(taken.step, n, edges, parent, low, high);
+        reader = taken.reader;
     }
 }
