@@ -25,7 +25,9 @@ ghost use Rattle.sheet_encode.specs.Tidy.{Tidies};
 ghost use Rattle.sheet_fragments.specs.Table.{Tabled};
 ghost use Rattle.sheet_fragments.specs.Records.{Recorded};
 ghost use Rattle.counter.specs.Calls.{CountOf, ReadingOf, StretchOf, ConfigurationOf, DrawingOf};
-ghost use Rattle.counter.specs.Checks.{CycleOf, PlacingOf};
+ghost use Rattle.solve_answer.specs.Calls.{countNumber, placedNumber, drawnNumber, placingNumber};
+ghost use Rattle.counter.specs.Checks.{CycleOf, PlacingOf, cycleNumber, tidiedNumber, tableNumber};
+ghost use Rattle.counter.specs.Numbers.{CountNumbered, ReadingNumbered, ConfigurationNumbered, DrawingNumbered, TidyNumbered, TableNumbered, RecordsNumbered, CycleNumbered, PlacingNumbered};
 
 // The listing's place: the number of the last reading handed out, 0 at the start.
 pub struct Place {
@@ -47,6 +49,7 @@ pub enum CycleChecked {
 // How many readings the sheet has.
 pub fn count(sheet: &[u8]) -> Counted
     ensures { λ r. ⌜ CountOf (outcome (now (sheet .entry))) r ⌝ }
+    ensures { λ r. ⌜ CountNumbered (outcome (now (sheet .entry))) (countNumber r) ⌝ }
 {
     let answer = read(sheet);
     let verdict = answer.verdict;
@@ -83,6 +86,7 @@ impl Place {
         ensures { λ r. ⌜
             ReadingOf (outcome (now (sheet .entry))) (self .number) (now (out .entry)) (r .answer) (r .place .number) (now (out .exit))
             ⌝ }
+        ensures { λ r. ⌜ ReadingNumbered (self .number) (now (out .entry)) (outcome (now (sheet .entry))) (placedNumber (r .answer)) ⌝ }
     {
         let answer = read(sheet);
         let verdict = answer.verdict;
@@ -109,6 +113,7 @@ impl Place {
         ensures { λ r. ⌜
             StretchOf (outcome (now (sheet .entry))) (self .number) (now (out .entry)) (r .answer) (r .place .number) (now (out .exit))
             ⌝ }
+        ensures { λ r. ⌜ ReadingNumbered (self .number) (now (out .entry)) (outcome (now (sheet .entry))) (placedNumber (r .answer)) ⌝ }
     {
         let place = self;
         let answer = read(sheet);
@@ -135,6 +140,7 @@ impl Place {
 // A configuration, in the first n bytes; or the cycle.
 pub fn configuration(sheet: &[u8], out: &mut [u8]) -> Placed
     ensures { λ r. ⌜ ConfigurationOf (outcome (now (sheet .entry))) (now (out .entry)) r (now (out .exit)) ⌝ }
+    ensures { λ r. ⌜ ConfigurationNumbered (now (out .entry)) (outcome (now (sheet .entry))) (placedNumber r) ⌝ }
 {
     let answer = read(sheet);
     let verdict = answer.verdict;
@@ -151,6 +157,7 @@ pub fn configuration(sheet: &[u8], out: &mut [u8]) -> Placed
 // The drawing of the reading with this number, from the first lent byte on.
 pub fn drawing(sheet: &[u8], number: usize, out: &mut [u8]) -> Drawn
     ensures { λ r. ⌜ DrawingOf (outcome (now (sheet .entry))) number (now (out .entry)) r (now (out .exit)) ⌝ }
+    ensures { λ r. ⌜ DrawingNumbered number (now (out .entry)) (outcome (now (sheet .entry))) (drawnNumber r) ⌝ }
 {
     let answer = read(sheet);
     let verdict = answer.verdict;
@@ -167,6 +174,7 @@ pub fn drawing(sheet: &[u8], number: usize, out: &mut [u8]) -> Drawn
 // The tidy sheet, from the first lent byte on.
 pub fn tidy(sheet: &[u8], out: &mut [u8]) -> Tidied
     ensures { λ r. ⌜ Tidies (outcome (now (sheet .entry))) r (now (out .entry)) (now (out .exit)) ⌝ }
+    ensures { λ r. ⌜ TidyNumbered (now (out .entry)) (outcome (now (sheet .entry))) (tidiedNumber r) ⌝ }
 {
     sheet_encode::tidy(sheet, out)
 }
@@ -174,6 +182,7 @@ pub fn tidy(sheet: &[u8], out: &mut [u8]) -> Tidied
 // One record per fragment, three bytes each: root, lowest leaf, number of leaves.
 pub fn fragment_table(sheet: &[u8], out: &mut [u8]) -> Table
     ensures { λ r. ⌜ Tabled (outcome (now (sheet .entry))) r (now (out .entry)) (now (out .exit)) ⌝ }
+    ensures { λ r. ⌜ TableNumbered (now (out .entry)) (outcome (now (sheet .entry))) (tableNumber r) ⌝ }
 {
     sheet_fragments::fragment_table(sheet, out)
 }
@@ -181,6 +190,7 @@ pub fn fragment_table(sheet: &[u8], out: &mut [u8]) -> Table
 // The same as records, into a lent slice of them. Later records, and in a refusal all, stay unwritten.
 pub fn fragments(sheet: &[u8], table: &mut [Fragment]) -> Table
     ensures { λ r. ⌜ Recorded (outcome (now (sheet .entry))) r (now (table .entry)) (now (table .exit)) ⌝ }
+    ensures { λ r. ⌜ RecordsNumbered (now (table .entry)) (outcome (now (sheet .entry))) (tableNumber r) ⌝ }
 {
     let records = prepare(sheet, table.len());
     let mut k = 0;
@@ -194,6 +204,7 @@ pub fn fragments(sheet: &[u8], table: &mut [Fragment]) -> Table
 // Whether the bytes spell a simple hypernormal cycle of the sheet.
 pub fn check_cycle(sheet: &[u8], cycle: &[u8]) -> CycleChecked
     ensures { λ r. ⌜ CycleOf (outcome (now (sheet .entry))) (now (cycle .entry)) r ⌝ }
+    ensures { λ r. ⌜ CycleNumbered (outcome (now (sheet .entry))) (cycleNumber r) ⌝ }
 {
     let answer = read(sheet);
     let verdict = answer.verdict;
@@ -210,6 +221,7 @@ pub fn check_cycle(sheet: &[u8], cycle: &[u8]) -> CycleChecked
 // Whether the first n bytes are a solved form, a configuration, a reading of the sheet.
 pub fn check_placing(sheet: &[u8], placing: &[u8]) -> PlacingChecked
     ensures { λ r. ⌜ PlacingOf (outcome (now (sheet .entry))) (now (placing .entry)) r ⌝ }
+    ensures { λ r. ⌜ PlacingNumbered (now (placing .entry)) (outcome (now (sheet .entry))) (placingNumber r) ⌝ }
 {
     let answer = read(sheet);
     let verdict = answer.verdict;

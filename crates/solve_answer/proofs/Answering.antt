@@ -20,7 +20,7 @@ use Rattle.theory_forest.specs.Shape.{Shaped}
 use Rattle.theory_forest.proofs.Shape.{well-formed-shaped}
 use Rattle.theory_forest.proofs.Forests.{placing-length}
 use Rattle.theory_list.specs.Readings.{listed}
-use Rattle.theory_list.proofs.Readings.{listing-exists, listed-solved, one-below}
+use Rattle.theory_list.proofs.Readings.{listing-exists, listing-unique, listed-solved, one-below}
 use Rattle.base_tables.specs.Tables.{Tables, SheetTables}
 use Rattle.base_tables.specs.declared.trees.Trees.{Trees}
 use Rattle.solve_walk.specs.States.{Walkable}
@@ -49,8 +49,16 @@ use Rattle.solve_answer.specs.declared.PlacingChecked.the-variants.{Answ
 pub some-listed : (g : Graph) → Shaped g → Solvable g → 0 < length (listed g)
 some-listed g s f = let o = one-below g s (f .0) (f .1) in omega (arith, o .1)
 
+-- where a reading is listed there is a solved form
+pub has-none : {g : Graph} {ps : List (List ℕ)} → Unsolvable g → Listing g ps → 0 < length ps → ⊥
+has-none {g} {ps} u l h = u (entry ps 0, l .only-readings 0 h .solved)
+
+-- there is one list, so that one number of readings can be handed out
+pub reaches : {g : Graph} → Shaped g → {ps qs : List (List ℕ)} → Listing g ps → Listing g qs → reach ps ≡ reach qs
+reaches {g} s l k = ap (λ (z : List (List ℕ)). reach z) (listing-unique g s l k)
+
 -- a reading has a byte for each node
-reading-long : {g : Graph} {ps : List (List ℕ)} → Listing g ps → (i : ℕ) → i < length ps → length (entry ps i) ≡ g .nodes
+pub reading-long : {g : Graph} {ps : List (List ℕ)} → Listing g ps → (i : ℕ) → i < length ps → length (entry ps i) ≡ g .nodes
 reading-long {g} {ps} l i h = placing-length g (entry ps i) (l .only-readings i h .solved .is-placing)
 
 -- a call that ends at k had room for no more, so that none of the same list ends later

@@ -1,7 +1,7 @@
 -- What crates/counter promises fixes each call's answer, place and bytes, but for the choice of the cycle: two answers to
 -- one call have the same number, and where it is not 9 they are equal, and so are the bytes.
 use Prim.Native.Nat.{ℕ, _-_, _≤_, _<_}
-use mathlib.Core.Path.{_≡_, refl, ap, subst}
+use mathlib.Core.Path.{_≡_, refl, sym, ap, subst, _∙_}
 use mathlib.Core.List.{List, _++_}
 use mathlib.Core.Logic.{_⊎_, inl, inr}
 use native.Mathlib.Omega.{arith}
@@ -10,16 +10,18 @@ use Rattle.graph.specs.Graph.{Graph}
 use Rattle.graph.specs.Order.{Listing, entry, countAnswer}
 use Rattle.graph.specs.Rule1.{Rule1, HandedOut}
 use Rattle.format.specs.Drawing.{drawing}
+use Rattle.format.specs.Sheet.{Outcome, refused, accepted}
 use Rattle.theory_forest.specs.Shape.{Shaped}
 use Rattle.theory_list.proofs.Readings.{listing-unique}
 use Rattle.theory_rule1.proofs.Ending.{rule1-function}
-use Rattle.graph.specs.Placing.{Unsolvable}
+use Rattle.solve_answer.proofs.Answering.{has-none, reaches}
 use Rattle.solve_answer.specs.Calls.{reach, placedNumber, Counts, ReadingCall, ConfigurationCall, DrawingCall}
 use Rattle.solve_answer.specs.declared.Counted.{Counted}
 use Rattle.solve_answer.specs.declared.Counted.the-variants.{Readings}
 use Rattle.solve_answer.specs.declared.Placed.{Placed}
 use Rattle.solve_answer.specs.declared.Drawn.{Drawn}
 use Rattle.solve_answer.specs.declared.Drawn.the-variants.{Length}
+use Rattle.counter.specs.Numbers.{First, Numbered}
 use Rattle.theory_demand.specs.Demand.{asNoReading}
 
 -- the same answer and bytes, but for the choice of the cycle
@@ -31,12 +33,6 @@ pub same-bytes : {r : Placed} {new new′ : List ℕ} → new ≡ new′ → Sam
 same-bytes e = record { number = refl; but-for-a-cycle = λ n. (refl, e) }
 
 module _ {g : Graph} (s : Shaped g) where
-  pub has-none : {ps : List (List ℕ)} → Unsolvable g → Listing g ps → 0 < length ps → ⊥
-  has-none {ps} u l h = u (entry ps 0, l .only-readings 0 h .solved)
-
-  pub reaches : {ps qs : List (List ℕ)} → Listing g ps → Listing g qs → reach ps ≡ reach qs
-  reaches l k = ap (λ (z : List (List ℕ)). reach z) (listing-unique g s l k)
-
   pub count-determined : {r r′ : Counted} → Counts g r → Counts g r′ → r ≡ r′
   count-determined (Counts.none u) (Counts.none u′) = refl
   count-determined (Counts.none u) (Counts.counted ps l h) = absurd (has-none u l h)
@@ -56,10 +52,10 @@ module _ {g : Graph} (s : Shaped g) where
   reading-determined (ReadingCall.beyond ps f l h b) (ReadingCall.small f′) = absurd (omega arith)
   reading-determined (ReadingCall.beyond ps f l h b) (ReadingCall.none f′ u c) = absurd (has-none u l h)
   reading-determined (ReadingCall.beyond ps f l h b) (ReadingCall.beyond qs f′ k h′ b′) = (refl, same-bytes refl)
-  reading-determined (ReadingCall.beyond ps f l h b) (ReadingCall.read qs f′ k b′) = absurd (omega (arith, reaches l k))
+  reading-determined (ReadingCall.beyond ps f l h b) (ReadingCall.read qs f′ k b′) = absurd (omega (arith, reaches s l k))
   reading-determined (ReadingCall.read ps f l b) (ReadingCall.small f′) = absurd (omega arith)
   reading-determined (ReadingCall.read ps f l b) (ReadingCall.none f′ u c) = absurd (has-none u l (omega arith))
-  reading-determined (ReadingCall.read ps f l b) (ReadingCall.beyond qs f′ k h b′) = absurd (omega (arith, reaches l k))
+  reading-determined (ReadingCall.read ps f l b) (ReadingCall.beyond qs f′ k h b′) = absurd (omega (arith, reaches s l k))
   reading-determined {m} {old = old} (ReadingCall.read ps f l b) (ReadingCall.read qs f′ k b′) =
       (refl, same-bytes (ap (λ (z : List (List ℕ)). entry z m ++ drop (g .nodes) old) (listing-unique g s l k)))
 
@@ -81,7 +77,7 @@ module _ {g : Graph} (s : Shaped g) where
 
   outside : {ps qs : List (List ℕ)} {k : ℕ} → Listing g ps → Listing g qs → (k ≡ 0) ⊎ (reach ps < k) → 0 < k → k ≤ reach qs → ⊥
   outside l l′ (inl e) h b = omega arith
-  outside l l′ (inr e) h b = omega (arith, reaches l l′)
+  outside l l′ (inr e) h b = omega (arith, reaches s l l′)
 
   -- the drawing writes no cycle, so nothing is left open
   pub drawing-determined : {k : ℕ} {old new new′ : List ℕ} {r r′ : Drawn} → DrawingCall g k old r new → DrawingCall g k old r′ new′ → (r ≡ r′) × (new ≡ new′)
@@ -105,3 +101,19 @@ module _ {g : Graph} (s : Shaped g) where
         ap (λ (z : List (List ℕ)). Length (length (drawing g (entry z (k - 1))))) e,
         ap (λ (z : List (List ℕ)). drawing g (entry z (k - 1)) ++ drop (length (drawing g (entry z (k - 1)))) old) e,
       )
+
+-- The second promise of each call fixes the number: one condition is the first to hold, or none does.
+
+-- at most one number meets this
+abbrev pub Fixed : (ℕ → Type 0) → Type 0
+Fixed gives = (k k′ : ℕ) → gives k → gives k′ → k ≡ k′
+
+pub first-fixed : (m : ℕ) (condition : Type 0) (later : ℕ → Type 0) → Fixed later → Fixed (First m condition later)
+first-fixed m condition later f k k′ (inl x) (inl y) = omega (arith, x .1, y .1)
+first-fixed m condition later f k k′ (inl x) (inr y) = absurd (y .0 (x .0))
+first-fixed m condition later f k k′ (inr x) (inl y) = absurd (x .0 (y .0))
+first-fixed m condition later f k k′ (inr x) (inr y) = f k k′ (x .1) (y .1)
+
+pub numbered-fixed : (own : Graph → ℕ → Type 0) → ((g : Graph) → Fixed (own g)) → (o : Outcome) → Fixed (Numbered own o)
+numbered-fixed own f (refused why) k k′ e e′ = e ∙ sym e′
+numbered-fixed own f (accepted g) k k′ x y = f g k k′ x y

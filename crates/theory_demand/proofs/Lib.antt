@@ -4,3 +4,4 @@ pub mod Demand3
 pub mod Determined
 pub mod Possible
 pub mod Stretches
+pub mod Checking

@@ -1,3 +1,4 @@
 pub mod Whole
 pub mod Spelling
 pub mod Tidy
+pub mod Refusals

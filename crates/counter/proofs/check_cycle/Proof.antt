@@ -36,13 +36,13 @@ check-requires c κs =
 returns : tie.Need-returns
 returns c =
     let r = c .before .before .before .before .before .before .before .read in
-    rw (answered-refused (now (c .before .before .before .before .before .before .before .before .before .before .args .sheet)) (r .result) _ (r .ensures) (c .before .verdict .given .1)) refl
+    rw (answered-refused (now (c .before .before .before .before .before .before .before .before .before .before .args .sheet)) (r .result) _ (r .ensures) (c .before .verdict .given .1)) (refl, refl)
 
 returns-2 : tie.Need-returns-2
 returns-2 c =
     let r = c .before .before .before .before .before .before .before .before .before .before .read in
     let x = sheet-of (now (c .before .before .before .before .before .before .before .before .before .before .before .before .before .args .sheet)) (r .result) (r .ensures) (c .before .before .before .before .enum-told .given .1) in
-    rw (x .is) (ap Answer (c .check .ensures (x .tables .graph) (x .tables .edges) (x .tables .tables)))
+    rw (x .is) (ap Answer (c .check .ensures (x .tables .graph) (x .tables .edges) (x .tables .tables)), refl)
 
 pub check-cycle-spec : {M : Type 1} → statement M
 check-cycle-spec =

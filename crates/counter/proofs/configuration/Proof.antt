@@ -4,6 +4,7 @@ use denote.Ref.{now}
 use Rattle.sheet_decode.proofs.Answers.{answered-refused}
 use Rattle.solve_start.proofs.Accepted.{sheet-of}
 use borrow.Author.Needs.{needs}
+use Rattle.counter.proofs.Numbers.{configuration-numbered}
 use Rattle.counter.proofs.configuration.Statement.{statement}
 use Rattle.counter.proofs.configuration.Tie as tie
 
@@ -33,7 +34,7 @@ configuration-of-requires c κs =
 returns : tie.Need-returns
 returns c =
     let r = c .before .before .before .before .before .before .before .read in
-    rw (answered-refused (now (c .before .before .before .before .before .before .before .before .before .before .args .sheet)) (r .result) _ (r .ensures) (c .before .verdict .given .1)) (refl, refl)
+    rw (answered-refused (now (c .before .before .before .before .before .before .before .before .before .before .args .sheet)) (r .result) _ (r .ensures) (c .before .verdict .given .1)) ((refl, refl), refl)
 
 same-length : tie.Need-same-length
 same-length c = search needs
@@ -42,7 +43,8 @@ returns-2 : tie.Need-returns-2
 returns-2 c =
     let r = c .before .before .before .before .before .before .before .before .before .before .before .before .before .read in
     let x = sheet-of (now (c .before .before .before .before .before .before .before .before .before .before .before .before .before .before .before .before .args .sheet)) (r .result) (r .ensures) (c .before .before .before .before .before .before .before .enum-told .given .1) in
-    rw (x .is) (c .before .before .configuration-of .ensures (x .tables))
+    let called = c .before .before .configuration-of .ensures (x .tables) in
+    rw (x .is) (called, configuration-numbered called)
 
 pub configuration-spec : {M : Type 1} → statement M
 configuration-spec =

@@ -5,6 +5,8 @@ use denote.Ref.{now}
 use Rattle.sheet_decode.proofs.Answers.{answered-refused}
 use Rattle.solve_start.proofs.Accepted.{sheet-of}
 use borrow.Author.Needs.{needs}
+use Rattle.theory_forest.proofs.Shape.{well-formed-shaped}
+use Rattle.counter.proofs.Numbers.{stretch-numbered}
 use Rattle.counter.proofs.Place.fill.Statement.{statement}
 use Rattle.counter.proofs.Place.fill.Tie as tie
 
@@ -37,7 +39,7 @@ moved-requires c κs = search needs
 returns : tie.Need-returns
 returns c =
     let r = c .before .before .before .before .before .before .before .read in
-    rw (answered-refused (now (c .before .before .before .before .before .before .before .before .before .before .args .sheet)) (r .result) _ (r .ensures) (c .before .verdict .given .1)) (refl, refl, refl)
+    rw (answered-refused (now (c .before .before .before .before .before .before .before .before .before .before .args .sheet)) (r .result) _ (r .ensures) (c .before .verdict .given .1)) ((refl, refl, refl), refl)
 
 same-length : tie.Need-same-length
 same-length c = search needs
@@ -46,7 +48,8 @@ returns-2 : tie.Need-returns-2
 returns-2 c =
     let r = c .before .before .before .before .before .before .before .before .before .before .before .before .before .before .read in
     let x = sheet-of (now (c .before .before .before .before .before .before .before .before .before .before .before .before .before .before .before .before .before .args .sheet)) (r .result) (r .ensures) (c .before .before .before .before .before .before .before .before .enum-told .given .1) in
-    rw (c .moved .ensures .0, c .moved .ensures .1, x .is) (c .before .before .before .readings-of .ensures (x .tables))
+    let called = c .before .before .before .readings-of .ensures (x .tables) in
+    rw (c .moved .ensures .0, c .moved .ensures .1, x .is) (called, stretch-numbered (well-formed-shaped (x .tables .tables .well-formed)) called)
 
 pub fill-spec : {M : Type 1} → statement M
 fill-spec =

@@ -6,6 +6,8 @@ use Rattle.sheet_decode.proofs.Answers.{answered-refused}
 use Rattle.solve_start.proofs.Accepted.{sheet-of}
 use Rattle.solve_answer.proofs.Answering.{next-reading}
 use borrow.Author.Needs.{needs}
+use Rattle.theory_forest.proofs.Shape.{well-formed-shaped}
+use Rattle.counter.proofs.Numbers.{reading-numbered}
 use Rattle.counter.proofs.Place.next.Statement.{statement}
 use Rattle.counter.proofs.Place.next.Tie as tie
 
@@ -38,7 +40,7 @@ moved-requires c κs = search needs
 returns : tie.Need-returns
 returns c =
     let r = c .before .before .before .before .before .before .before .read in
-    rw (answered-refused (now (c .before .before .before .before .before .before .before .before .before .before .args .sheet)) (r .result) _ (r .ensures) (c .before .verdict .given .1)) (refl, refl, refl)
+    rw (answered-refused (now (c .before .before .before .before .before .before .before .before .before .before .args .sheet)) (r .result) _ (r .ensures) (c .before .verdict .given .1)) ((refl, refl, refl), refl)
 
 same-length : tie.Need-same-length
 same-length c = search needs
@@ -47,7 +49,8 @@ returns-2 : tie.Need-returns-2
 returns-2 c =
     let r = c .before .before .before .before .before .before .before .before .before .before .before .before .before .before .read in
     let x = sheet-of (now (c .before .before .before .before .before .before .before .before .before .before .before .before .before .before .before .before .before .args .sheet)) (r .result) (r .ensures) (c .before .before .before .before .before .before .before .before .enum-told .given .1) in
-    rw (c .moved .ensures .0, c .moved .ensures .1, x .is) (next-reading (x .tables) (c .before .before .before .readings-of .ensures (x .tables)))
+    let called = next-reading (x .tables) (c .before .before .before .readings-of .ensures (x .tables)) in
+    rw (c .moved .ensures .0, c .moved .ensures .1, x .is) (called, reading-numbered (well-formed-shaped (x .tables .tables .well-formed)) called)
 
 pub next-spec : {M : Type 1} → statement M
 next-spec =
