@@ -1,16 +1,14 @@
 // The calls of `counter` for programs in C. The result of each is 0 or the number of the refusal; what the answer carries is put
 // where the caller wants it. include/bixtogan.h is the page for callers.
-mod put;
-
+use capi_put::put_count;
+use capi_put::put_cycle;
+use capi_put::put_drawn;
+use capi_put::put_next;
+use capi_put::put_placed;
+use capi_put::put_placing;
+use capi_put::put_table;
+use capi_put::put_tidied;
 use counter::Place;
-use put::put_count;
-use put::put_cycle;
-use put::put_drawn;
-use put::put_next;
-use put::put_placed;
-use put::put_placing;
-use put::put_table;
-use put::put_tidied;
 ghost use Rattle.format.specs.Sheet.{outcome};
 ghost use Rattle.capi.specs.Interface.{CountTold, ReadingTold, ReadingsTold, ConfigurationTold, DrawingTold, TidyTold, FragmentsTold, CycleTold, PlacingTold};
 
@@ -75,24 +73,24 @@ pub extern "C" fn bixtogan_drawing(
     sheet: &[u8],
     number: u64,
     out: &mut [u8],
-    length: &mut u64,
+    written: &mut u64,
 ) -> u8
     ensures { λ r. ⌜
-        DrawingTold (outcome (now (sheet .entry))) r number (now (out .entry)) (now (out .exit)) (now (length .entry)) (now (length .exit))
+        DrawingTold (outcome (now (sheet .entry))) r number (now (out .entry)) (now (out .exit)) (now (written .entry)) (now (written .exit))
         ⌝ }
 {
     let answer = counter::drawing(sheet, number as usize, out);
-    put_drawn(answer, length)
+    put_drawn(answer, written)
 }
 
 #[no_mangle]
-pub extern "C" fn bixtogan_tidy(sheet: &[u8], out: &mut [u8], length: &mut u64) -> u8
+pub extern "C" fn bixtogan_tidy(sheet: &[u8], out: &mut [u8], written: &mut u64) -> u8
     ensures { λ r. ⌜
-        TidyTold (outcome (now (sheet .entry))) r (now (out .entry)) (now (out .exit)) (now (length .entry)) (now (length .exit))
+        TidyTold (outcome (now (sheet .entry))) r (now (out .entry)) (now (out .exit)) (now (written .entry)) (now (written .exit))
         ⌝ }
 {
     let answer = counter::tidy(sheet, out);
-    put_tidied(answer, length)
+    put_tidied(answer, written)
 }
 
 #[no_mangle]

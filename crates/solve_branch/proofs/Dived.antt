@@ -4,10 +4,10 @@ use mathlib.Core.Path.{_≡_}
 use mathlib.Core.List.{List}
 use Rattle.graph.specs.Graph.{Graph}
 use Rattle.graph.specs.Placing.{Solvable}
-use Rattle.solve_branch.specs.Decisions.{reached}
+use Rattle.solve_levels.specs.Decisions.{reached}
 use Rattle.solve_branch.specs.States.{Enters, Stands, Leaves}
 use Rattle.solve_branch.specs.Dives.{Reaches, Deeper, Opens, Arrives}
-use Rattle.solve_branch.specs.declared.levels.Level.{Level}
+use Rattle.solve_levels.specs.declared.Level.{Level}
 use Rattle.solve_branch.specs.declared.dive.Dived.{Dived}
 use Rattle.solve_branch.specs.declared.dive.Dived.the-variants.{To, Stuck}
 

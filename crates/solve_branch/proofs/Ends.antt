@@ -128,24 +128,24 @@ ends-all g n k rows nodes all so blank = record { closed = closed; row-is = λ u
         let ev : End g v = some v w q in
         so .end u w (small u eu) eu .1 (path-trans (so .end u v (small u eu) eu .0 p) (so .end v w (small v ev) ev .0 q))
 
--- a member of the set below one of the leaves
+-- one of the nodes below one of the leaves
 
-pub record MeetsSo (sets : List ℕ) (set leaves left : NodeSet) : Type 0 where
+pub record MeetsSo (sets : List ℕ) (nodes leaves left : NodeSet) : Type 0 where
   pub of-leaves : (l : ℕ) → mem left l ≡ true → mem leaves l ≡ true
-  pub none : (l v : ℕ) → mem leaves l ≡ true → mem left l ≡ false → mem set v ≡ true → inRow sets l v ≡ true → ⊥
+  pub none : (l v : ℕ) → mem leaves l ≡ true → mem left l ≡ false → mem nodes v ≡ true → inRow sets l v ≡ true → ⊥
 
-pub meets-start : (sets : List ℕ) (set leaves : NodeSet) → MeetsSo sets set leaves leaves
-meets-start sets set leaves = record { of-leaves = λ l h. h; none = λ l v m out. absurd (true≢false (sym m ∙ out)) }
+pub meets-start : (sets : List ℕ) (nodes leaves : NodeSet) → MeetsSo sets nodes leaves leaves
+meets-start sets nodes leaves = record { of-leaves = λ l h. h; none = λ l v m out. absurd (true≢false (sym m ∙ out)) }
 
-module _ {sets : List ℕ} {set leaves left left′ : NodeSet} (row both : NodeSet) {l : ℕ} (first : Lowest left l left′) (so : MeetsSo sets set leaves left)
-    (is-row : (v : ℕ) → mem row v ≡ inRow sets l v) (is-both : Intersection row set both) (b : Bool) (is : b ≡ not (any 128 (mem both))) where
-  pub meets-found : not b ≡ true → Meets sets set leaves true
+module _ {sets : List ℕ} {nodes leaves left left′ : NodeSet} (row both : NodeSet) {l : ℕ} (first : Lowest left l left′) (so : MeetsSo sets nodes leaves left)
+    (is-row : (v : ℕ) → mem row v ≡ inRow sets l v) (is-both : Intersection row nodes both) (b : Bool) (is : b ≡ not (any 128 (mem both))) where
+  pub meets-found : not b ≡ true → Meets sets nodes leaves true
   meets-found e =
       let x = any-found 128 (mem both) (some-member both b is e) in
-      let p = and-both (mem row (x .0)) (mem set (x .0)) (sym (is-both (x .0)) ∙ x .2) in
+      let p = and-both (mem row (x .0)) (mem nodes (x .0)) (sym (is-both (x .0)) ∙ x .2) in
       (λ t. (l, x .0, so .of-leaves l (first .in-set), p .1, sym (is-row (x .0)) ∙ p .0), λ t. refl)
 
-  pub meets-more : Small set → not b ≡ false → MeetsSo sets set leaves left′
+  pub meets-more : Small nodes → not b ≡ false → MeetsSo sets nodes leaves left′
   meets-more small e =
       record {
         of-leaves = λ k m. so .of-leaves k (removed-member left l left′ (first .others) k m .0);
@@ -153,12 +153,12 @@ module _ {sets : List ℕ} {set leaves left left′ : NodeSet} (row both : NodeS
             by-bool (eqb k l)
             (λ (t : eqb k l ≡ true).
             let here : mem row v ≡ true = is-row v ∙ subst (λ (z : ℕ). inRow sets z v ≡ true) (eqb-true k l t) in-row in
-            true≢false (sym (is-both v ∙ and-intro (mem row v) (mem set v) here in-set) ∙ no-member both b is e v (small v in-set)))
+            true≢false (sym (is-both v ∙ and-intro (mem row v) (mem nodes v) here in-set) ∙ no-member both b is e v (small v in-set)))
             (λ (t : eqb k l ≡ false). so .none k v m (sym (removed-other left l left′ (first .others) k (eqb-false k l t)) ∙ out) in-set in-row);
       }
 
-pub meets-none : (sets : List ℕ) (set leaves left : NodeSet) → Empty left → MeetsSo sets set leaves left → Meets sets set leaves false
-meets-none sets set leaves left none so = (λ e. absurd (false≢true e), λ (l, v, m, s, e). absurd (so .none l v m (none l) s e))
+pub meets-none : (sets : List ℕ) (nodes leaves left : NodeSet) → Empty left → MeetsSo sets nodes leaves left → Meets sets nodes leaves false
+meets-none sets nodes leaves left none so = (λ e. absurd (false≢true e), λ (l, v, m, s, e). absurd (so .none l v m (none l) s e))
 
 -- what shows at a leaf
 

@@ -30,15 +30,15 @@ use Rattle.theory_walk.specs.Walk.{Decision, first, second, half, graphAt, Vali
 use Rattle.theory_walk.proofs.Halves.{solvable-loopless}
 use Rattle.theory_walk.proofs.Decisions.{graph-leaf, graph-pushed, graph-shaped, Last, valid-popped}
 use Rattle.theory_walk.proofs.States.{entering-outset, entering-shaped, entering-none, entering-solvable-stays, entering-room, entering-first, entering-at, leaving-turned, leaving-second, leaving-end}
-use Rattle.solve_branch.specs.Decisions.{upperAt, lowerAt, decisions, opens, reached, Kept, written, turned}
-use Rattle.solve_branch.specs.Levels.{state, Matches}
+use Rattle.solve_levels.specs.Decisions.{upperAt, lowerAt, decisions, opens, reached, Kept, written, turned}
+use Rattle.solve_levels.specs.Levels.{state, Matches}
 use Rattle.solve_branch.specs.States.{Enters, Dives, Stands, Leaves}
 use Rattle.solve_branch.specs.Dives.{Turns}
 use Rattle.solve_branch.specs.Dead.{Dead}
-use Rattle.solve_branch.specs.declared.levels.Level.{Level}
-use Rattle.solve_branch.proofs.Tables.{decision-first, decision-second, reached-none, decisions-none, decisions-more, decisions-length, decisions-pushed, opens-second, opens-seconds, kept-decisions, written-kept, written-upper, written-lower}
-use Rattle.solve_branch.proofs.Stack.{level-here, fragments-here, matches-kept}
-use Rattle.solve_branch.proofs.Fitting.{reduction-at, fits-in, same-nodes, valid-shaped, decision-loopless, last-choice}
+use Rattle.solve_levels.specs.declared.Level.{Level}
+use Rattle.solve_levels.proofs.Tables.{decision-first, decision-second, reached-none, decisions-none, decisions-more, decisions-length, decisions-pushed, opens-second, opens-seconds, kept-decisions, written-kept, written-upper, written-lower}
+use Rattle.solve_levels.proofs.Stack.{level-here, fragments-here, matches-kept}
+use Rattle.solve_levels.proofs.Fitting.{reduction-at, fits-in, same-nodes, valid-shaped, decision-loopless, last-choice}
 
 -- a decision written down is one that can be taken
 module _ (g : Graph) (trail : List ℕ) (d a b : ℕ) (long : 2 * d + 1 < length trail) where

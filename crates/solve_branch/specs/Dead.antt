@@ -10,10 +10,10 @@ use Rattle.graph.specs.Graph.{Graph, Descent}
 use Rattle.graph.specs.Placing.{Unsolvable}
 use Rattle.base_tables.specs.Sets.{inRow}
 
--- one of the leaves is above a member of the set
+-- one of the leaves is above one of the nodes
 abbrev pub Meets : List ℕ → NodeSet → NodeSet → Bool → Type 0
-Meets sets set leaves r =
-    (r ≡ true) ↔ ((l : ℕ) × (v : ℕ) × (mem leaves l ≡ true) × (mem set v ≡ true) × (inRow sets l v ≡ true))
+Meets sets nodes leaves r =
+    (r ≡ true) ↔ ((l : ℕ) × (v : ℕ) × (mem leaves l ≡ true) × (mem nodes v ≡ true) × (inRow sets l v ≡ true))
 
 -- true: there is none; false: there may be one, and no cycle goes through the leaf
 abbrev pub Dead : Graph → ℕ → Bool → Type 0

@@ -11,7 +11,7 @@ use Rattle.graph.specs.Placing.{Solvable}
 use Rattle.solve_test.specs.Tables.{End}
 use Rattle.solve_branch.specs.declared.dive.Dived.{Dived}
 use Rattle.solve_branch.specs.declared.dive.Dived.the-variants.{To, Stuck}
-use Rattle.solve_branch.specs.Decisions.{upperAt, lowerAt, reached}
+use Rattle.solve_levels.specs.Decisions.{upperAt, lowerAt, reached}
 use Rattle.solve_branch.specs.States.{Enters, Stands, Leaves}
 
 -- of a root or a leaf what is under it, and nothing of another node

@@ -7,9 +7,9 @@ use Rattle.theory_list.specs.Redundancy.{Loopless}
 use Rattle.theory_walk.specs.Walk.{Entering, At, Leaving}
 use Rattle.base_tables.specs.Trees.{Owners, Fits}
 use Rattle.base_tables.specs.declared.trees.Trees.{Trees}
-use Rattle.solve_branch.specs.Decisions.{decisions, opens, reached}
-use Rattle.solve_branch.specs.Levels.{Matches}
-use Rattle.solve_branch.specs.declared.levels.Level.{Level}
+use Rattle.solve_levels.specs.Decisions.{decisions, opens, reached}
+use Rattle.solve_levels.specs.Levels.{Matches}
+use Rattle.solve_levels.specs.declared.Level.{Level}
 
 -- the readings of the graph at the decisions, if it has some, come next
 pub record Enters (g : Graph) (trail states : List ℕ) (at : Level) (k : ℕ) : Type 0 where

@@ -1,13 +1,13 @@
 // Down by halves that are not tested, and back by the last decision that has a half left.
-use crate::levels::LEVELS;
-use crate::levels::Level;
-use crate::levels::back_to;
-use crate::levels::down;
-use crate::levels::slot;
 use base_nodeset::NodeSet;
 use base_nodeset::Popped;
 use base_tables::sets::set_at;
 use base_tables::trees::Trees;
+use solve_levels::LEVELS;
+use solve_levels::Level;
+use solve_levels::back_to;
+use solve_levels::down;
+use solve_levels::slot;
 use solve_reduce::choose::Fork;
 use solve_reduce::choose::choose;
 use solve_reduce::reduced::width;
@@ -22,8 +22,8 @@ ghost use Rattle.base_tables.specs.Trees.{Owners, Fits};
 ghost use Rattle.solve_reduce.specs.Below.{Fragments};
 ghost use Rattle.solve_reduce.specs.Reduced.{Under, LooplessForm};
 ghost use Rattle.solve_reduce.specs.Chosen.{Bounded, Chosen};
-ghost use Rattle.solve_branch.specs.Decisions.{upperAt, lowerAt, decisions, opens, Noted, Room, Kept, written, turned};
-ghost use Rattle.solve_branch.specs.Levels.{Stack, state, Matches};
+ghost use Rattle.solve_levels.specs.Decisions.{upperAt, lowerAt, decisions, opens, Noted, Room, Kept, written, turned};
+ghost use Rattle.solve_levels.specs.Levels.{Stack, state, Matches};
 ghost use Rattle.solve_branch.specs.States.{Dives, Diving};
 ghost use Rattle.solve_branch.specs.Dives.{Reaches, Deeper, Turns};
 ghost use Rattle.solve_branch.specs.Dead.{Meets, Dead};
@@ -44,17 +44,17 @@ fn fork(states: &[u64], n: usize, opened: usize) -> Fork
     choose(&states[from..from + wide], n)
 }
 
-// Whether one of the leaves is above a member of the set.
-fn meets(sets: &[u64], set: NodeSet, leaves: NodeSet) -> bool
+// Whether one of the leaves is above one of the nodes.
+fn meets(sets: &[u64], nodes: NodeSet, leaves: NodeSet) -> bool
     requires { ⌜ ((l : ℕ) → mem leaves l ≡ true → 2 * l + 1 < length (now sets)) ⌝ }
-    ensures { λ r. ⌜ Meets (now (sets .entry)) set leaves r ⌝ }
+    ensures { λ r. ⌜ Meets (now (sets .entry)) nodes leaves r ⌝ }
 {
     let mut left = leaves;
     loop {
         let Popped::Member(l, rest) = left.pop() else {
             return false;
         };
-        if !set_at(sets, l).intersection(set).is_empty() {
+        if !set_at(sets, l).intersection(nodes).is_empty() {
             return true;
         }
         left = rest;

@@ -16,10 +16,10 @@ use Rattle.theory_walk.proofs.States.{at-below, at-entry}
 use Rattle.base_tables.specs.Trees.{TreesOf, Fits}
 use Rattle.base_tables.specs.declared.trees.Trees.{Trees}
 use Rattle.solve_reduce.specs.Reduced.{LooplessForm}
-use Rattle.solve_branch.specs.Decisions.{reached}
-use Rattle.solve_branch.specs.Levels.{state}
+use Rattle.solve_levels.specs.Decisions.{reached}
+use Rattle.solve_levels.specs.Levels.{state}
 use Rattle.solve_branch.specs.States.{Stands}
-use Rattle.solve_branch.specs.declared.levels.Level.{Level}
+use Rattle.solve_levels.specs.declared.Level.{Level}
 use Rattle.solve_branch.proofs.Walks.{stands-form, stands-trees}
 use Rattle.solve_walk.specs.States.{Walkable}
 use Rattle.solve_numbered.specs.Numbered.{Reaches, HandsOver, Finds}

@@ -2,11 +2,11 @@
 use base_tables::trees::Trees;
 use graph::Count;
 use graph::LAST;
-use solve_branch::levels::Level;
-use solve_branch::levels::SMALL;
-use solve_branch::levels::SMALL_STACK;
-use solve_branch::levels::STACK;
-use solve_branch::levels::slot;
+use solve_levels::Level;
+use solve_levels::SMALL;
+use solve_levels::SMALL_STACK;
+use solve_levels::STACK;
+use solve_levels::slot;
 use solve_reduce::reduced::width;
 use solve_reduce::settle::settle;
 use solve_walk::steps::Moved;
@@ -21,8 +21,8 @@ ghost use Rattle.theory_list.specs.Readings.{listed};
 ghost use Rattle.theory_list.specs.Settled.{settled};
 ghost use Rattle.base_tables.specs.Trees.{Bounded, TreesOf};
 ghost use Rattle.solve_reduce.specs.Reduced.{LooplessForm};
-ghost use Rattle.solve_branch.specs.Decisions.{Room};
-ghost use Rattle.solve_branch.specs.Levels.{Stack, state};
+ghost use Rattle.solve_levels.specs.Decisions.{Room};
+ghost use Rattle.solve_levels.specs.Levels.{Stack, state};
 ghost use Rattle.solve_walk.specs.States.{Walkable};
 ghost use Rattle.solve_numbered.specs.Numbered.{Reaches, HandsOver, Finds};
 

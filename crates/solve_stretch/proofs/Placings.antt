@@ -15,10 +15,10 @@ use Rattle.solve_reduce.specs.Reduced.{LooplessForm}
 use Rattle.theory_walk.proofs.States.{at-below, at-entry}
 use Rattle.base_tables.specs.Trees.{TreesOf, Fits}
 use Rattle.base_tables.specs.declared.trees.Trees.{Trees}
-use Rattle.solve_branch.specs.Decisions.{reached}
-use Rattle.solve_branch.specs.Levels.{state}
+use Rattle.solve_levels.specs.Decisions.{reached}
+use Rattle.solve_levels.specs.Levels.{state}
 use Rattle.solve_branch.specs.States.{Stands}
-use Rattle.solve_branch.specs.declared.levels.Level.{Level}
+use Rattle.solve_levels.specs.declared.Level.{Level}
 use Rattle.solve_branch.proofs.Walks.{stands-form, stands-trees}
 use Rattle.solve_numbered.proofs.Numbers.{reached-at, reached-only}
 use Rattle.base_finite.specs.Stores.{joined}
@@ -38,7 +38,7 @@ placings-none : (ps : List (List ℕ)) (passed : ℕ) → placings ps passed pas
 unfolding joined
 placings-none ps passed = let none : passed - passed ≡ 0 = omega arith in ap (λ (m : ℕ). joined (take m (drop passed ps))) none
 
-placings-more : (ps : List (List ℕ)) (passed last : ℕ) → passed ≤ last → last < length ps → placings ps passed (last + 1) ≡ placings ps passed last ++ entry ps last
+pub placings-more : (ps : List (List ℕ)) (passed last : ℕ) → passed ≤ last → last < length ps → placings ps passed (last + 1) ≡ placings ps passed last ++ entry ps last
 placings-more ps passed last h below =
     let more : last + 1 - passed ≡ suc (last - passed) = omega arith in
     let back : passed + (last - passed) ≡ last = omega arith in

@@ -10,7 +10,7 @@ use Rattle.graph.specs.Order.{limit}
 use Rattle.theory_list.specs.Readings.{listed}
 use Rattle.base_finite.specs.Stores.{joined}
 use Rattle.solve_branch.specs.States.{Stands}
-use Rattle.solve_branch.specs.declared.levels.Level.{Level}
+use Rattle.solve_levels.specs.declared.Level.{Level}
 use Rattle.solve_stretch.specs.declared.Stop.{Stop}
 
 -- the placings that come after the first `passed`, up to the number `last`

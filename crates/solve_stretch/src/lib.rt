@@ -1,10 +1,10 @@
 // Readings one after the other, as many as there are and as fit, in one walk.
 use base_tables::trees::Trees;
 use graph::LAST;
-use solve_branch::levels::Level;
-use solve_branch::levels::SMALL;
-use solve_branch::levels::SMALL_STACK;
-use solve_branch::levels::STACK;
+use solve_levels::Level;
+use solve_levels::SMALL;
+use solve_levels::SMALL_STACK;
+use solve_levels::STACK;
 use solve_numbered::Reached;
 use solve_numbered::SMALL_TRAIL;
 use solve_numbered::TRAIL;
@@ -22,8 +22,8 @@ ghost use Rattle.graph.specs.Order.{limit};
 ghost use Rattle.theory_list.specs.Settled.{settled};
 ghost use Rattle.base_tables.specs.Trees.{Bounded, TreesOf, Fits};
 ghost use Rattle.solve_reduce.specs.Reduced.{LooplessForm};
-ghost use Rattle.solve_branch.specs.Decisions.{Room};
-ghost use Rattle.solve_branch.specs.Levels.{Stack, state};
+ghost use Rattle.solve_levels.specs.Decisions.{Room};
+ghost use Rattle.solve_levels.specs.Levels.{Stack, state};
 ghost use Rattle.solve_branch.specs.States.{Stands};
 ghost use Rattle.solve_walk.specs.States.{Walkable, Standing};
 ghost use Rattle.solve_stretch.specs.Stretch.{levelOf, Next, Filled, Goes, StretchOf};

@@ -8,7 +8,7 @@ use Rattle.graph.specs.Graph.{Graph}
 use Rattle.theory_list.specs.Readings.{listed}
 use Rattle.theory_walk.proofs.States.{at-leaving}
 use Rattle.solve_branch.specs.States.{Stands, Leaves}
-use Rattle.solve_branch.specs.declared.levels.Level.{Level}
+use Rattle.solve_levels.specs.declared.Level.{Level}
 use Rattle.solve_walk.specs.Moves.{Moves}
 use Rattle.solve_walk.specs.declared.steps.Moved.{Moved}
 use Rattle.solve_walk.specs.declared.steps.Moved.the-variants.{To, End}

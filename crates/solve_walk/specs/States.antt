@@ -6,7 +6,7 @@ use Rattle.graph.specs.Placing.{Solvable}
 use Rattle.base_tables.specs.Sets.{Rows}
 use Rattle.base_tables.specs.declared.trees.Trees.{Trees}
 use Rattle.solve_branch.specs.States.{Stands, Leaves, Walked}
-use Rattle.solve_branch.specs.declared.levels.Level.{Level}
+use Rattle.solve_levels.specs.declared.Level.{Level}
 
 -- a graph with a solved form, and the rows of its descent relation
 pub record Walkable (t : Trees) (owners rows : List ℕ) : Type 0 where

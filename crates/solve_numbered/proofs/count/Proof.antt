@@ -1,6 +1,6 @@
 -- The tables are long enough.
 use native.Mathlib.Omega.{arith}
-use Rattle.solve_branch.proofs.Stack.{stack-large, stack-small}
+use Rattle.solve_levels.proofs.Stack.{stack-large, stack-small}
 use Rattle.solve_numbered.proofs.Numbers.{room, small-room}
 use borrow.Author.Needs.{needs}
 use Rattle.solve_numbered.proofs.count.Statement.{statement}

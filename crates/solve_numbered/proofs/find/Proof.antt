@@ -1,7 +1,7 @@
 -- The walk to the number, and the placing where it stands.
 use native.Mathlib.Omega.{arith}
 use denote.Ref.{now}
-use Rattle.solve_branch.proofs.Stack.{stack-large, stack-small}
+use Rattle.solve_levels.proofs.Stack.{stack-large, stack-small}
 use Rattle.solve_numbered.proofs.Numbers.{room, small-room, handed}
 use borrow.Author.Needs.{needs}
 use Rattle.solve_numbered.proofs.find.Statement.{statement}

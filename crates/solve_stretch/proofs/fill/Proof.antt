@@ -10,7 +10,7 @@ use Rattle.graph.specs.Graph.{Graph}
 use Rattle.graph.specs.Order.{limit}
 use Rattle.base_tables.specs.Trees.{Fits}
 use Rattle.solve_branch.specs.States.{Stands}
-use Rattle.solve_branch.proofs.Stack.{stack-here}
+use Rattle.solve_levels.proofs.Stack.{stack-here}
 use Rattle.solve_walk.proofs.Moved.{moved-to, moved-end}
 use Rattle.solve_stretch.proofs.Placings.{Handed, handed-none, handed-more, handed-all, stands-within}
 use borrow.Author.Needs.{needs}

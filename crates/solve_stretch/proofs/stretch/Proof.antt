@@ -1,6 +1,6 @@
 -- The walk goes to the first reading wanted and on from there.
 use native.Mathlib.Omega.{arith}
-use Rattle.solve_branch.proofs.Stack.{stack-large, stack-small}
+use Rattle.solve_levels.proofs.Stack.{stack-large, stack-small}
 use Rattle.solve_numbered.proofs.Numbers.{room, small-room}
 use Rattle.solve_stretch.proofs.Placings.{past-limit, from-passed}
 use borrow.Author.Needs.{needs}

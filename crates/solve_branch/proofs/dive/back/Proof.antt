@@ -2,7 +2,7 @@
 use Prim.Native.Nat.{ℕ, _≤_, _<_}
 use native.Mathlib.Omega.{arith}
 use denote.Ref.{now}
-use Rattle.solve_branch.specs.Decisions.{upperAt, lowerAt}
+use Rattle.solve_levels.specs.Decisions.{upperAt, lowerAt}
 use Rattle.solve_branch.proofs.Walks.{second-or-after}
 use borrow.Author.Needs.{needs}
 use Rattle.solve_branch.proofs.dive.back.Statement.{statement}

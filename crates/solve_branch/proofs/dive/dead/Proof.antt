@@ -11,7 +11,7 @@ use Rattle.base_nodeset.proofs.Members.{removed-member}
 use Rattle.graph.specs.Graph.{own}
 use Rattle.solve_reduce.specs.Below.{Fragments}
 use Rattle.solve_reduce.specs.Reduced.{Under}
-use Rattle.solve_branch.proofs.Stack.{lent-state}
+use Rattle.solve_levels.proofs.Stack.{lent-state}
 use Rattle.solve_branch.proofs.Ends.{dead-cycle, dead-torn}
 use borrow.Author.Needs.{needs}
 use Rattle.solve_branch.proofs.dive.dead.Statement.{statement}

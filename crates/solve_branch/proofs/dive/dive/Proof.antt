@@ -6,10 +6,10 @@ use lib.ListN.{length}
 use Rattle.graph.specs.Graph.{Graph}
 use Rattle.base_tables.specs.Trees.{Fits}
 use Rattle.solve_reduce.proofs.Found.{found-bounds}
-use Rattle.solve_branch.specs.Decisions.{Kept}
+use Rattle.solve_levels.specs.Decisions.{Kept}
 use Rattle.solve_branch.specs.States.{Dives}
-use Rattle.solve_branch.proofs.Tables.{kept-all, kept-wrote, noted-written}
-use Rattle.solve_branch.proofs.Stack.{stack-here, open-within}
+use Rattle.solve_levels.proofs.Tables.{kept-all, kept-wrote, noted-written}
+use Rattle.solve_levels.proofs.Stack.{stack-here, open-within}
 use Rattle.solve_branch.proofs.Walks.{found-none, found-room, found-first, led-open, led-closed}
 use borrow.Author.Needs.{needs}
 use Rattle.solve_branch.proofs.dive.dive.Statement.{statement}

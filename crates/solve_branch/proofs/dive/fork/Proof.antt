@@ -5,7 +5,7 @@ use Prim.Native.Nat.{ℕ}
 use native.Mathlib.Omega.{arith}
 use denote.Ref.{now}
 use Rattle.solve_reduce.specs.Reduced.{LooplessForm}
-use Rattle.solve_branch.proofs.Stack.{lent-state}
+use Rattle.solve_levels.proofs.Stack.{lent-state}
 use borrow.Author.Needs.{needs}
 use Rattle.solve_branch.proofs.dive.fork.Statement.{statement}
 use Rattle.solve_branch.proofs.dive.fork.Tie as tie

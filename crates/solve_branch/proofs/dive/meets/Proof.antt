@@ -1,4 +1,4 @@
--- The invariant: no leaf passed is above a member of the set.
+-- The invariant: no leaf passed is above one of the nodes.
 use native.Mathlib.Omega.{arith}
 use denote.Ref.{now}
 use Rattle.base_finite.specs.Below.{count}
@@ -10,10 +10,10 @@ use Rattle.solve_branch.proofs.dive.meets.Statement.{statement}
 use Rattle.solve_branch.proofs.dive.meets.Tie as tie
 
 abbrev Inv-loop : tie.InvT-loop
-Inv-loop sets set left₀ left = MeetsSo sets set left₀ left
+Inv-loop sets nodes left₀ left = MeetsSo sets nodes left₀ left
 
 abbrev μ-loop : tie.MeasureT-loop
-μ-loop sets set left₀ left = count 128 (mem left)
+μ-loop sets nodes left₀ left = count 128 (mem left)
 
 loop-holds : tie.Need-loop-holds Inv-loop μ-loop
 loop-holds c = meets-start _ _ _
@@ -28,7 +28,7 @@ enum-told : tie.Need-enum-told Inv-loop μ-loop
 enum-told c = search needs
 
 returns : tie.Need-returns Inv-loop μ-loop
-returns c = meets-none (now (c .before .before .before .before .before .args .sets)) (c .before .before .before .before .before .args .set) (c .before .before .before .before .before .args .leaves) (c .before .before .before .loop .left) (c .before .before .pop .ensures .empty (c .enum-told .given .1)) (c .before .before .before .loop .inv)
+returns c = meets-none (now (c .before .before .before .before .before .args .sets)) (c .before .before .before .before .before .args .nodes) (c .before .before .before .before .before .args .leaves) (c .before .before .before .loop .left) (c .before .before .pop .ensures .empty (c .enum-told .given .1)) (c .before .before .before .loop .inv)
 
 set-at-requires : tie.Need-set-at-requires Inv-loop μ-loop
 set-at-requires c κs = (c .before .before .before .before .before .before .pre) _ (c .before .before .before .before .loop .inv .of-leaves _ (c .before .before .before .pop .ensures .lowest _ _ (c .before .l .given .1) .in-set))
@@ -48,7 +48,7 @@ loop-less c =
     omega arith
 
 loop-again : tie.Need-loop-again Inv-loop μ-loop
-loop-again c = meets-more (c .before .before .before .set-at .result) (c .before .before .intersection .result) (c .before .before .before .before .before .before .before .pop .ensures .lowest _ _ (c .before .before .before .before .before .l .given .1)) (c .before .before .before .before .before .before .before .before .loop .inv) (c .before .before .before .set-at .ensures) (c .before .before .intersection .ensures) (c .before .is-empty .result) (c .before .is-empty .ensures) (small-set (c .before .before .before .before .before .before .before .before .before .before .args .set) (omega (arith, c .before .before .before .before .before .before .before .before .before .before .good))) (c .if1 .left)
+loop-again c = meets-more (c .before .before .before .set-at .result) (c .before .before .intersection .result) (c .before .before .before .before .before .before .before .pop .ensures .lowest _ _ (c .before .before .before .before .before .l .given .1)) (c .before .before .before .before .before .before .before .before .loop .inv) (c .before .before .before .set-at .ensures) (c .before .before .intersection .ensures) (c .before .is-empty .result) (c .before .is-empty .ensures) (small-set (c .before .before .before .before .before .before .before .before .before .before .args .nodes) (omega (arith, c .before .before .before .before .before .before .before .before .before .before .good))) (c .if1 .left)
 
 pub meets-spec : {M : Type 1} → statement M
 meets-spec =

@@ -3,8 +3,8 @@ use Prim.Native.Nat.{_+_, _≤_, _<_}
 use mathlib.Core.Logic.{⊎-elim}
 use native.Mathlib.Omega.{arith}
 use denote.Ref.{now}
-use Rattle.solve_branch.proofs.Tables.{valid-fewer, noted-turned}
-use Rattle.solve_branch.proofs.Stack.{matches-kept}
+use Rattle.solve_levels.proofs.Tables.{valid-fewer, noted-turned}
+use Rattle.solve_levels.proofs.Stack.{matches-kept}
 use Rattle.solve_branch.proofs.Walks.{turned-open}
 use borrow.Author.Needs.{needs}
 use Rattle.solve_branch.proofs.dive.turn.Statement.{statement}

@@ -9,11 +9,11 @@ use lib.ListN.{length}
 use Rattle.graph.specs.Graph.{Graph}
 use Rattle.graph.specs.Placing.{Solvable}
 use Rattle.base_tables.specs.Trees.{Fits}
-use Rattle.solve_branch.specs.Decisions.{reached, Kept}
+use Rattle.solve_levels.specs.Decisions.{reached, Kept}
 use Rattle.solve_branch.specs.States.{Dives}
-use Rattle.solve_branch.proofs.Tables.{kept-all, kept-both, noted-long}
-use Rattle.solve_branch.proofs.Fitting.{few, valid-noted}
-use Rattle.solve_branch.proofs.Stack.{stack-here, open-within}
+use Rattle.solve_levels.proofs.Tables.{kept-all, kept-both, noted-long}
+use Rattle.solve_levels.proofs.Fitting.{few, valid-noted}
+use Rattle.solve_levels.proofs.Stack.{stack-here, open-within}
 use Rattle.solve_branch.proofs.Walks.{enters-dives, stays-or-left}
 use Rattle.solve_branch.proofs.Dived.{stuck-deeper, reached-to, reached-stuck, opened-to, opened-stuck}
 use borrow.Author.Needs.{needs}

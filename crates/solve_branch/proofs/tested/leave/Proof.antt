@@ -6,9 +6,9 @@ use native.Mathlib.Omega.{arith}
 use lib.ListN.{length}
 use Rattle.graph.specs.Graph.{Graph}
 use Rattle.base_tables.specs.Trees.{Fits}
-use Rattle.solve_branch.specs.Decisions.{Noted, Kept}
+use Rattle.solve_levels.specs.Decisions.{Noted, Kept}
 use Rattle.solve_branch.specs.States.{Leaves}
-use Rattle.solve_branch.proofs.Tables.{kept-all, kept-wrote, noted-kept, noted-long, turn-kept}
+use Rattle.solve_levels.proofs.Tables.{kept-all, kept-wrote, noted-kept, noted-long, turn-kept}
 use Rattle.solve_branch.proofs.Walks.{enters-none, tested-level, turned-led, second-left, back-leaves}
 use borrow.Author.Needs.{needs}
 use Rattle.solve_branch.proofs.tested.leave.Statement.{statement}

@@ -8,7 +8,7 @@ use Rattle.graph.specs.Graph.{own}
 use Rattle.solve_reduce.specs.Below.{Fragments}
 use Rattle.solve_reduce.specs.Reduced.{Under}
 use Rattle.solve_test.proofs.Filled.{blank-rows}
-use Rattle.solve_branch.proofs.Stack.{lent-state}
+use Rattle.solve_levels.proofs.Stack.{lent-state}
 use borrow.Author.Needs.{needs}
 use Rattle.solve_branch.proofs.tested.tested.Statement.{statement}
 use Rattle.solve_branch.proofs.tested.tested.Tie as tie

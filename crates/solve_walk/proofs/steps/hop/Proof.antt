@@ -3,9 +3,9 @@ use Prim.Native.Nat.{_+_}
 use mathlib.Core.Path.{refl}
 use native.Mathlib.Omega.{arith}
 use denote.Ref.{now}
-use Rattle.solve_branch.proofs.Tables.{kept-all, noted-turned, noted-long, opens-within}
-use Rattle.solve_branch.proofs.Fitting.{valid-noted}
-use Rattle.solve_branch.proofs.Stack.{stack-here}
+use Rattle.solve_levels.proofs.Tables.{kept-all, noted-turned, noted-long, opens-within}
+use Rattle.solve_levels.proofs.Fitting.{valid-noted}
+use Rattle.solve_levels.proofs.Stack.{stack-here}
 use Rattle.solve_branch.proofs.Walks.{led-open, led-closed, turned-led, second-left}
 use Rattle.solve_branch.proofs.Dived.{arrives-up}
 use borrow.Author.Needs.{needs}

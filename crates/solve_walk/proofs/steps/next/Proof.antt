@@ -7,8 +7,8 @@ use lib.ListN.{length}
 use Rattle.graph.specs.Graph.{Graph}
 use Rattle.base_tables.specs.Trees.{Fits}
 use Rattle.solve_branch.specs.States.{Leaves}
-use Rattle.solve_branch.proofs.Tables.{noted-long}
-use Rattle.solve_branch.proofs.Fitting.{valid-noted}
+use Rattle.solve_levels.proofs.Tables.{noted-long}
+use Rattle.solve_levels.proofs.Fitting.{valid-noted}
 use Rattle.solve_branch.proofs.Walks.{left-all, back-leaves}
 use Rattle.solve_branch.proofs.Dived.{arrived-to, arrived-stuck}
 use Rattle.solve_walk.proofs.Moved.{stands-leaves}
