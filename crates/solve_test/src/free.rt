@@ -56,7 +56,7 @@ fn apart(rows: &[u64], near: &[u64], leaves: NodeSet, within: NodeSet) -> bool
 }
 
 // The set without f, where nothing else in it is joined to two leaves of f.
-fn take(rows: &[u64], near: &[u64], leaf: &[u64], rem: NodeSet, f: usize) -> NodeSet
+fn take_out(rows: &[u64], near: &[u64], leaf: &[u64], rem: NodeSet, f: usize) -> NodeSet
     requires { ⌜ Long (now rows) × Long (now near) × Long (now leaf) × (f < 128) ⌝ }
     requires { ⌜ Symmetric (inRow (now near)) ⌝ }
     ensures { λ r. ⌜ Taken (inRow (now (rows .entry))) (inRow (now (near .entry))) (inRow (now (leaf .entry))) rem f r ⌝ }
@@ -82,7 +82,7 @@ fn round(rows: &[u64], near: &[u64], leaf: &[u64], rem: NodeSet) -> NodeSet
         let Popped::Member(f, rest) = left.pop() else {
             return kept;
         };
-        kept = take(rows, near, leaf, kept, f);
+        kept = take_out(rows, near, leaf, kept, f);
         left = rest;
     }
 }

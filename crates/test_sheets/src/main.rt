@@ -41,10 +41,10 @@ fn print_sheet(sheet: &[u8]) {
     let mut out = [0u8; 2048];
     match tidy(sheet, &mut out) {
         Tidied::Refused(why) => print_refusal(why),
-        Tidied::Length(length) => {
-            if length <= 2048 {
+        Tidied::Length(bytes) => {
+            if bytes <= 2048 {
                 io::write_all(STDOUT_FILENO, b"tidy ");
-                print_bytes(&out[..length]);
+                print_bytes(&out[..bytes]);
                 print_table(sheet);
             }
         }
@@ -60,12 +60,12 @@ fn wide(byte: u8) -> usize
 fn print_sheets(input: &[u8]) {
     let mut at = 0;
     while 2 <= input.len() - at {
-        let length = wide(input[at]) * 256 + wide(input[at + 1]);
+        let bytes = wide(input[at]) * 256 + wide(input[at + 1]);
         let start = at + 2;
-        if input.len() - start < length {
+        if input.len() - start < bytes {
             return;
         }
-        let end = start + length;
+        let end = start + bytes;
         print_sheet(&input[start..end]);
         at = end;
     }

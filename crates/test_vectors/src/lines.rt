@@ -1,14 +1,14 @@
 // What is printed: lines for a sheet with a name, and the sums.
 use crate::Sums;
-use crate::answers::MARK;
-use crate::answers::length;
-use crate::answers::plus;
-use crate::unpack::nodes_of;
-use crate::unpack::part;
 use counter::Place;
 use counter::configuration;
 use counter::drawing;
 use libc::STDOUT_FILENO;
+use test_calls::answers::MARK;
+use test_calls::answers::drawn_bytes;
+use test_calls::answers::plus;
+use test_calls::unpack::nodes_of;
+use test_calls::unpack::part;
 use test_second::table::byte;
 
 fn text(words: &[u8]) {
@@ -49,7 +49,7 @@ fn drawing_line(sheet: &[u8]) {
     let mut page = [MARK; 1024];
     let answer = drawing(sheet, 1, &mut page);
     text(b"drawing ");
-    text(part(&page, length(answer)));
+    text(part(&page, drawn_bytes(answer)));
     text(b"\n");
 }
 

@@ -1,19 +1,15 @@
 // Takes the sheets of its input through the public calls, each against the second solver: the cases of document 01, the chains
 // of Section 9 of document 000, and generated ones. A mismatch is an answer that is not what the documents and the second
 // solver say.
-mod answers;
 mod lines;
-mod refused;
-mod solved;
 mod trial;
-mod unpack;
 
-use answers::fails;
-use answers::is_cycle;
-use answers::plus;
 use lines::case;
 use lines::summary;
-use refused::malformed;
+use test_calls::answers::fails;
+use test_calls::answers::is_cycle;
+use test_calls::answers::plus;
+use test_calls::refused::malformed;
 use test_second::table::byte;
 use trial::Found;
 use trial::trial;
@@ -27,8 +23,8 @@ pub struct Sums {
 
 // Where the field at a place ends: it has its length, two bytes, before it.
 fn end_of(input: &[u8], at: usize) -> usize {
-    let length = 256 * byte(input, at) + byte(input, plus(at, 1));
-    plus(plus(at, 2), length)
+    let bytes = 256 * byte(input, at) + byte(input, plus(at, 1));
+    plus(plus(at, 2), bytes)
 }
 
 // The field at a place; nothing where the input has no room for it.

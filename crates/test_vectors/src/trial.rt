@@ -1,16 +1,16 @@
 // One well-formed sheet through all calls.
-use crate::answers::fails;
-use crate::answers::plus;
-use crate::refused::no_reading;
-use crate::refused::short_buffers;
-use crate::solved::all_top;
-use crate::solved::configured;
-use crate::solved::drawings;
-use crate::solved::same_count;
-use crate::solved::same_list;
-use crate::solved::same_verdict;
-use crate::unpack::nodes_of;
-use crate::unpack::unpack;
+use test_calls::answers::fails;
+use test_calls::answers::plus;
+use test_calls::refused::no_reading;
+use test_calls::refused::short_buffers;
+use test_calls::solved::all_top;
+use test_calls::solved::configured;
+use test_calls::solved::drawings;
+use test_calls::solved::same_count;
+use test_calls::solved::same_list;
+use test_calls::solved::same_verdict;
+use test_calls::unpack::nodes_of;
+use test_calls::unpack::unpack;
 
 // The bytes that a list may take, and the readings: each of them costs a walk from the start.
 const TABLE: usize = 65536;

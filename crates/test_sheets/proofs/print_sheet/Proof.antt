@@ -17,8 +17,8 @@ enum-known-why c = search needs
 print-refusal-requires : tie.Need-print-refusal-requires
 print-refusal-requires c κs = search needs
 
-enum-known-length : tie.Need-enum-known-length
-enum-known-length c = search needs
+enum-known-bytes : tie.Need-enum-known-bytes
+enum-known-bytes c = search needs
 
 slice-aggregate-write-all : tie.Need-slice-aggregate-write-all
 slice-aggregate-write-all c = search needs
@@ -55,7 +55,7 @@ print-sheet-spec =
     tidy-requires
     enum-known-why
     print-refusal-requires
-    enum-known-length
+    enum-known-bytes
     slice-aggregate-write-all
     write-all-requires
     array-share-prefix-out

@@ -22,8 +22,8 @@ shared-slice-read-wide c = search needs
 wide-requires : tie.Need-wide-requires Inv-loop μ-loop
 wide-requires c κs = search needs
 
-mul-length : tie.Need-mul-length Inv-loop μ-loop
-mul-length c = search needs
+mul-bytes : tie.Need-mul-bytes Inv-loop μ-loop
+mul-bytes c = search needs
 
 add-wide : tie.Need-add-wide Inv-loop μ-loop
 add-wide c = search needs
@@ -34,8 +34,8 @@ shared-slice-read-wide-2 c = search needs
 wide-requires-2 : tie.Need-wide-requires-2 Inv-loop μ-loop
 wide-requires-2 c κs = search needs
 
-add-length : tie.Need-add-length Inv-loop μ-loop
-add-length c = search needs
+add-bytes : tie.Need-add-bytes Inv-loop μ-loop
+add-bytes c = search needs
 
 add-start : tie.Need-add-start Inv-loop μ-loop
 add-start c = search needs
@@ -80,11 +80,11 @@ print-sheets-spec =
     sub-loop
     shared-slice-read-wide
     wide-requires
-    mul-length
+    mul-bytes
     add-wide
     shared-slice-read-wide-2
     wide-requires-2
-    add-length
+    add-bytes
     add-start
     sub-if1
     returns

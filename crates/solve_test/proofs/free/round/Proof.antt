@@ -33,8 +33,8 @@ returns : tie.Need-returns Inv-loop μ-loop
 returns c =
     round-end _ _ _ (c .before .before .before .before .before .before .before .before .args .rem) (c .before .before .before .before .tops .result) (c .before .before .before .loop .kept) (c .before .before .before .loop .left) (c .before .before .before .before .tops .ensures) (c .before .before .before .loop .inv) (c .before .before .pop .ensures .empty (c .enum-told .given .1))
 
-take-requires : tie.Need-take-requires Inv-loop μ-loop
-take-requires c κs =
+take-out-requires : tie.Need-take-out-requires Inv-loop μ-loop
+take-out-requires c κs =
     ((c .before .before .before .before .before .before .before .before .before .pre .0 .0, c .before .before .before .before .before .before .before .before .before .pre .0 .1, c .before .before .before .before .before .before .before .before .before .pre .0 .2, c .before .before .before .pop .ensures .lowest _ _ (c .before .f .given .1) .below), c .before .before .before .before .before .before .before .before .before .pre .1)
 
 loop-less : tie.Need-loop-less Inv-loop μ-loop
@@ -44,7 +44,7 @@ loop-less c =
 
 loop-again : tie.Need-loop-again Inv-loop μ-loop
 loop-again c =
-    round-more _ _ _ (c .before .before .before .before .before .before .before .before .before .before .args .rem) (c .before .before .before .before .before .before .tops .result) (c .before .before .before .before .before .loop .kept) _ (c .take .result) _ _ (c .before .before .before .before .before .before .tops .ensures) (c .before .before .before .before .pop .ensures .lowest _ _ (c .before .before .f .given .1)) (c .before .before .before .before .before .loop .inv) (c .take .ensures)
+    round-more _ _ _ (c .before .before .before .before .before .before .before .before .before .before .args .rem) (c .before .before .before .before .before .before .tops .result) (c .before .before .before .before .before .loop .kept) _ (c .take-out .result) _ _ (c .before .before .before .before .before .before .tops .ensures) (c .before .before .before .before .pop .ensures .lowest _ _ (c .before .before .f .given .1)) (c .before .before .before .before .before .loop .inv) (c .take-out .ensures)
 
 pub round-spec : {M : Type 1} → statement M
 round-spec =
@@ -58,6 +58,6 @@ round-spec =
     enum-known-f
     enum-told
     returns
-    take-requires
+    take-out-requires
     loop-less
     loop-again)

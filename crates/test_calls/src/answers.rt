@@ -64,7 +64,7 @@ pub fn placed(answer: Placed) -> u8 {
 pub fn pairs(answer: Placed) -> usize {
     match answer {
         Placed::Done => 0,
-        Placed::NoReading(length) => length,
+        Placed::NoReading(pairs) => pairs,
         Placed::Refused(_) => 0,
     }
 }
@@ -77,9 +77,9 @@ pub fn drawn(answer: Drawn) -> u8 {
     }
 }
 
-pub fn length(answer: Drawn) -> usize {
+pub fn drawn_bytes(answer: Drawn) -> usize {
     match answer {
-        Drawn::Length(length) => length,
+        Drawn::Length(bytes) => bytes,
         Drawn::Refused(_) => 0,
     }
 }

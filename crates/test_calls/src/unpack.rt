@@ -11,9 +11,9 @@ const TREE: usize = 2;
 const FIRST: usize = 2;
 
 // The first bytes of the table, which has so many.
-pub fn part(table: &[u8], length: usize) -> &[u8] {
-    if length <= table.len() {
-        &table[0..length]
+pub fn part(table: &[u8], bytes: usize) -> &[u8] {
+    if bytes <= table.len() {
+        &table[0..bytes]
     } else {
         table
     }

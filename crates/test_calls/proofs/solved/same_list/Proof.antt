@@ -2,8 +2,8 @@ use Prim.Native.Nat.{_-_}
 use mathlib.Core.Path.{_≡_}
 use lib.ListN.{length}
 use borrow.Author.Needs.{needs}
-use Rattle.test_vectors.proofs.solved.same_list.Statement.{statement}
-use Rattle.test_vectors.proofs.solved.same_list.Tie as tie
+use Rattle.test_calls.proofs.solved.same_list.Statement.{statement}
+use Rattle.test_calls.proofs.solved.same_list.Tie as tie
 
 abbrev Inv-loop : tie.InvT-loop
 Inv-loop sheet n table rows seen₀ wrong₀ place₀ -row₀ seen wrong place -row = length seen ≡ 2048

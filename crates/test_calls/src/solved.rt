@@ -3,11 +3,11 @@
 use crate::answers::MARK;
 use crate::answers::configuration_in;
 use crate::answers::drawn;
+use crate::answers::drawn_bytes;
 use crate::answers::fails;
 use crate::answers::is_configuration;
 use crate::answers::is_reading;
 use crate::answers::is_solved;
-use crate::answers::length;
 use crate::answers::lent;
 use crate::answers::next_in;
 use crate::answers::placed;
@@ -152,7 +152,7 @@ fn drawn_as(sheet: &[u8], number: usize, answer: u8) -> usize {
     let mut out = [MARK; 1024];
     let got = drawing(sheet, number, &mut out);
     let wrong = fails(drawn(got) == answer);
-    plus(wrong, fails(untouched(&out, length(got))))
+    plus(wrong, fails(untouched(&out, drawn_bytes(got))))
 }
 
 // Drawings: reading 1 has one, reading 0 and the reading after the last have none.
