@@ -11,7 +11,7 @@ use Rattle.theory_list.specs.Settled.{settled}
 use Rattle.base_tables.specs.Trees.{TreesOf}
 use Rattle.base_tables.specs.declared.trees.Trees.{Trees}
 use Rattle.solve_reduce.specs.Reduced.{LooplessForm}
-use Rattle.solve_branch.specs.Levels.{state}
+use Rattle.solve_levels.specs.Levels.{state}
 use Rattle.solve_branch.specs.States.{Stands}
 use Rattle.solve_numbered.specs.declared.Reached.{Reached}
 use Rattle.solve_numbered.specs.declared.Reached.the-variants.{At, Only}

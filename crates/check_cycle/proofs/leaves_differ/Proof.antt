@@ -1,7 +1,7 @@
 -- The invariant: the set holds the leaves of the places passed, and none of them was met twice.
 use Prim.Native.Nat.{ℕ, _-_, _≤_, _<_}
-use mathlib.Core.Path.{_≡_, sym, _∙_}
-use mathlib.Core.Bool.{true}
+use mathlib.Core.Path.{_≡_, sym, ap₂, _∙_}
+use mathlib.Core.Bool.{true, _||_}
 use native.Mathlib.Omega.{arith}
 use borrow.Author.Count.{below-none, below-more}
 use Rattle.base_finite.proofs.Laws.{all-fails, all-every}
@@ -66,7 +66,7 @@ loop-again c =
     c .before .before .is-empty .ensures
     ∙ spare-is (a .low .now) (a .high .now) bs (l .i) (l .used) (c .before .before .before .before .leaf-at .result) (c .before .before .before .intersection .result) (l .inv .1) (c .before .before .before .before .leaf-at .ensures) (c .before .before .before .intersection .ensures) in (
       omega arith,
-      λ x. c .union .ensures x ∙ rw (l .inv .1 x, c .before .before .before .before .leaf-at .ensures x) (used-more (a .low .now) (a .high .now) bs (l .i) x),
+      λ x. c .union .ensures x ∙ ap₂ _||_ (l .inv .1 x) (c .before .before .before .before .leaf-at .ensures x) ∙ used-more (a .low .now) (a .high .now) bs (l .i) x,
       below-more _ _ (l .inv .2) (passed is (c .before .if1 .left)),
     )
 
