@@ -3,6 +3,7 @@ use super::calls::{Caller, Compared};
 use super::known::{Placed, Total};
 use super::lent::Lent;
 use super::raw::{self, Told};
+use super::Difference;
 use differential::{cycle, Refused, DRAWING, LAST};
 
 fn told<T>(wanted: Result<T, Refused>, before: T) -> Told<T> {
@@ -49,7 +50,7 @@ fn placed(caller: &mut Caller) -> Compared {
     if let Some(wanted) = caller.known.reading(place, room) {
         let mut lent = Lent::new(caller.random, room);
         let given = raw::reading(caller.sheet.lend(), place, lent.lend_mut(), before);
-        let pairs = wanted_pairs(caller, &wanted, &lent, given.1 .1, before);
+        let pairs = wanted_pairs(caller, &wanted, &lent, given.1 .1, before)?;
         let wanted = match wanted {
             Placed::Done(_) => (0, (place + 1, pairs)),
             Placed::Cycle => (9, (place, pairs)),
@@ -60,7 +61,7 @@ fn placed(caller: &mut Caller) -> Compared {
     if let Some(wanted) = caller.known.fill(place, room) {
         let mut lent = Lent::new(caller.random, room);
         let given = raw::readings(caller.sheet.lend(), place, lent.lend_mut(), before);
-        let pairs = wanted_pairs(caller, &wanted, &lent, given.1 .1, before);
+        let pairs = wanted_pairs(caller, &wanted, &lent, given.1 .1, before)?;
         let wanted = match wanted {
             Placed::Done(placings) => (0, (place + 2 * placings.len() as u64 / caller.known.room() as u64, pairs)),
             Placed::Cycle => (9, (place, pairs)),
@@ -71,7 +72,7 @@ fn placed(caller: &mut Caller) -> Compared {
     if let Some(wanted) = caller.known.configuration(room) {
         let mut lent = Lent::new(caller.random, room);
         let given = raw::configuration(caller.sheet.lend(), lent.lend_mut(), before);
-        let pairs = wanted_pairs(caller, &wanted, &lent, given.1, before);
+        let pairs = wanted_pairs(caller, &wanted, &lent, given.1, before)?;
         let wanted = match wanted {
             Placed::Done(_) => (0, pairs),
             Placed::Cycle => (9, pairs),
@@ -82,18 +83,15 @@ fn placed(caller: &mut Caller) -> Compared {
     Ok(())
 }
 
-/// The number of pairs that is wanted: the one given where so many pairs are a cycle, 0 where they are none, and what was
-/// there before where no cycle is wanted.
-fn wanted_pairs(caller: &Caller, wanted: &Placed, lent: &Lent, pairs: u64, before: u64) -> u64 {
+/// The number of pairs that is wanted: where a cycle is, the one given, whose pairs must be one; else what was there before.
+fn wanted_pairs(caller: &mut Caller, wanted: &Placed, lent: &Lent, pairs: u64, before: u64) -> Result<u64, Difference> {
     let (Placed::Cycle, Ok(facts)) = (wanted, &caller.known.facts) else {
-        return before;
+        return Ok(before);
     };
-    let bytes = usize::try_from(pairs).ok().and_then(|pairs| lent.lend().get(..2 * pairs));
-    if bytes.is_some_and(|bytes| cycle::check(&facts.graph, bytes)) {
-        pairs
-    } else {
-        0
-    }
+    let bytes = usize::try_from(pairs).ok().and_then(|pairs| lent.lend().get(..pairs.checked_mul(2)?));
+    let right = bytes.is_some_and(|bytes| cycle::check(&facts.graph, bytes));
+    caller.told(right, "the cycle of no reading, number of pairs put", "that of a hypernormal cycle", pairs)?;
+    Ok(pairs)
 }
 
 fn lengths(caller: &mut Caller) -> Compared {
