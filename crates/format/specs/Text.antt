@@ -1,15 +1,18 @@
 -- Numbers and lines as bytes (document 01, "The printed list").
-use Prim.Native.Nat.{ℕ, zero, suc, _+_, _/_, _%_}
+use Prim.Native.Nat.{ℕ, zero, suc, _+_, _/_, _%_, _<_}
 use mathlib.Core.List.{List, [], _∷_, _++_}
 use mathlib.Core.Bool.{cond, not, _&&_}
 use lib.Dec.{eqb, ltb}
 use lib.ListN.{length, take}
 use Rattle.base_finite.specs.Below.{spread}
+use Rattle.base_finite.specs.Stores.{joined}
 use Rattle.graph.specs.Graph.{Graph, root, none}
-use Rattle.graph.specs.Placing.{at}
-use Rattle.graph.specs.Order.{limit, countAnswer}
+use Rattle.graph.specs.Placing.{at, Unsolvable}
+use Rattle.graph.specs.Order.{Listing, limit, countAnswer}
 use Rattle.format.specs.Refusal.{number}
+use Rattle.format.specs.Sheet.{Outcome, refused, accepted}
 use Rattle.format.specs.declared.Refusal.{Refusal}
+use Rattle.format.specs.declared.Refusal.the-variants.{NoReading}
 use Rattle.graph.specs.declared.Count.{Count}
 use Rattle.graph.specs.declared.Count.the-variants.{Exactly, More}
 
@@ -62,3 +65,13 @@ numbered g k (p ∷ ps) = readingLine g k p ∷ numbered g (suc k) ps
 -- "Line 1 is "readings" and the count", and "at most 65,535 lines" follow
 unfoldable pub printed : Graph → List (List ℕ) → List (List ℕ)
 printed g ps = countLine (countAnswer (length ps)) ∷ numbered g 1 (take limit ps)
+
+-- "a sheet of up to 2,048 bytes on standard input; a longer input is judged by its first 2,048"
+abbrev pub judged : List ℕ → List ℕ
+judged input = take 2048 input
+
+-- What is printed of a sheet that comes to this: "A refusal is one line", also that it has no reading; or the list.
+pub data PrintedList : Outcome → List ℕ → Type 0 where
+  refusal : (why : Refusal) → PrintedList (refused why) (refusedLine why)
+  no-reading : {g : Graph} → Unsolvable g → PrintedList (accepted g) (refusedLine NoReading)
+  readings : {g : Graph} (ps : List (List ℕ)) → Listing g ps → 0 < length ps → PrintedList (accepted g) (joined (printed g ps))

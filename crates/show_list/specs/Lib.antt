@@ -1,1 +1,1 @@
-pub mod Pages
+pub mod Run

@@ -1,50 +1,265 @@
-// The lines of readings whose placings stand one after the other, a page at a time.
+// The pages of a run: the first has the refusal's line or the count's, each further one lines of readings. What decides stands
+// here, so that a program only reads, calls and writes.
+use base_nodeset::NodeSet;
 use base_tables::trees::Trees;
-use base_text::LINE;
-use base_text::reading_line;
-ghost use Prim.Native.Nat.{_≤_, _<_};
-ghost use lib.ListN.{length};
-ghost use Rattle.graph.specs.Order.{limit};
-ghost use Rattle.show_list.specs.Pages.{Held, PageOf};
+use base_text::count_line;
+use base_text::refused_line;
+use format::Refusal;
+use graph::Count;
+use graph::LAST;
+use sheet_decode::judge::Verdict;
+use sheet_decode::read::Graph;
+use sheet_decode::read::read;
+use show_page::fill_page;
+use solve_numbered::count;
+use solve_start::begin;
+use solve_stretch::Stop;
+use solve_stretch::fill;
+use solve_walk::steps::first;
+ghost use mathlib.Core.Path.{_≡_};
+ghost use mathlib.Core.Bool.{true, false, _||_};
+ghost use lib.Dec.{ltb};
+ghost use Prim.Native.Nat.{_≤_, _<_, min};
+ghost use lib.ListN.{length, take};
+ghost use Rattle.graph.specs.Graph as graph;
+ghost use Rattle.graph.specs.Order.{limit, countAnswer};
+ghost use Rattle.format.specs.Sheet.{outcome, accepted};
+ghost use Rattle.format.specs.Text.{judged};
+ghost use Rattle.theory_list.specs.Readings.{listed};
+ghost use Rattle.base_tables.specs.Tables.{SheetTables};
+ghost use Rattle.solve_walk.specs.States.{Walkable};
+ghost use Rattle.solve_stretch.specs.Stretch.{Filled, Goes};
+ghost use Rattle.show_list.specs.Run.{Underway, Refuses, FirstPage, NextPage};
 
-// How many bytes the page has, and the number of its last reading.
+// So much of the input counts.
+pub const INPUT: usize = 2048;
+
+// A page, and what the next one goes on from.
 pub struct Page {
+    // How many bytes it has, and whether another follows.
     pub bytes: usize,
-    pub last: usize,
+    pub more: bool,
+    // The lines of the first `done` readings are written.
+    pub done: usize,
+    // The placings at hand are those after the first `passed`, up to where the walk stopped.
+    pub passed: usize,
+    pub stop: Stop,
+    pub trees: Trees,
+    pub owner: [u8; 128],
 }
 
-// The placings are those after the first `passed`, up to the number `last`. The lines of those after the first `done`, until
-// none is left or no place for one.
-pub fn fill_page(
-    placings: &[u8],
-    trees: Trees,
-    passed: usize,
-    last: usize,
-    done: usize,
-    out: &mut [u8],
-) -> Page
-    requires { ⌜ (trees .n ≤ 128) × (passed ≤ done) × (done ≤ last) × (last ≤ limit) ⌝ }
-    requires { ⌜ Held trees passed last (now placings) × (1100 ≤ length (now out)) ⌝ }
-    ensures { λ r. ⌜ (r .bytes ≤ length (now (out .exit))) × (r .last ≤ last) × (done < last → done < r .last) ⌝ }
-    ensures { λ r. ⌜ ((s : Held trees passed last (now (placings .entry))) → PageOf (s .graph) done (now (out .exit)) r) ⌝ }
+// A refusal is one line, and nothing follows.
+fn refuse(why: Refusal, out: &mut [u8]) -> Page
+    requires { ⌜ 40 ≤ length (now out) ⌝ }
+    ensures { λ r. ⌜ Refuses why (now (out .entry)) r (now (out .exit)) ⌝ }
 {
-    let n = trees.n;
-    let mut at = (done - passed) * n;
-    let mut k = done;
-    let mut end = 0;
-    while k < last {
-        k += 1;
-        end = reading_line(&placings[at..], n, trees.roots, k, out, end);
-        at += n;
-        if out.len() - end < LINE {
-            return Page {
-                bytes: end,
-                last: k,
-            };
+    let bytes = refused_line(why, out, 0);
+    let stop = Stop {
+        last: 0,
+        more: false,
+        depth: 0,
+        open: 0,
+        kept: 0,
+    };
+    let trees = Trees {
+        n: 0,
+        leaves: NodeSet::empty(),
+        roots: NodeSet::empty(),
+    };
+    let owner = [0u8; 128];
+    Page {
+        bytes,
+        more: false,
+        done: 0,
+        passed: 0,
+        stop,
+        trees,
+        owner,
+    }
+}
+
+// The count. Where no more follow it is the last number, unless that is the last number there is. Else a walk of its own counts.
+fn total(rows: &[u64], owner: &[u8], trees: Trees, last: usize, more: bool) -> Count
+    requires { ⌜ Walkable trees (now owner) (now rows) ⌝ }
+    requires { ⌜
+        ((s : Walkable trees (now owner) (now rows)) → more ≡ false → last ≡ min (length (listed (s .walked .graph))) limit)
+        ⌝ }
+    ensures { λ r. ⌜
+        ((s : Walkable trees (now (owner .entry)) (now (rows .entry))) → r ≡ countAnswer (length (listed (s .walked .graph))))
+        ⌝ }
+{
+    if last < LAST {
+        if !more {
+            return Count::Exactly(last);
         }
     }
+    count(rows, owner, trees)
+}
+
+// From the first reading on, as many placings as fit.
+fn walk(
+    rows: &[u64],
+    owner: &[u8],
+    trees: Trees,
+    states: &mut [u64],
+    trail: &mut [u8],
+    placings: &mut [u8],
+) -> Stop
+    requires { ⌜ Walkable trees (now owner) (now rows) ⌝ }
+    requires { ⌜ (8772 ≤ length (now states)) × (32768 ≤ length (now trail)) × (128 ≤ length (now placings)) ⌝ }
+    ensures { λ r. ⌜ (r .more ≡ true → r .last < limit) ⌝ }
+    ensures { λ r. ⌜
+        ((s : Walkable trees (now (owner .entry)) (now (rows .entry))) →
+        Filled (s .walked .graph) 0 (now (placings .entry)) (r .last) (now (placings .exit)) × Goes (s .walked .graph) (now (trail .exit)) (now (states .exit)) r)
+        ⌝ }
+{
+    let at = first(rows, owner, trees, states, trail);
+    let outset = Stop {
+        last: 0,
+        more: true,
+        depth: at.depth,
+        open: at.open,
+        kept: at.kept,
+    };
+    fill(owner, trees, states, trail, outset, placings)
+}
+
+// Line 1 of a well-formed sheet's list, or that it has no reading.
+fn begin_list(
+    graph: Graph,
+    states: &mut [u64],
+    trail: &mut [u8],
+    placings: &mut [u8],
+    out: &mut [u8],
+) -> Page
+    requires { ⌜ SheetTables (graph .n) (graph .parent) (graph .low) (graph .high) ⌝ }
+    requires { ⌜ (8772 ≤ length (now states)) × (32768 ≤ length (now trail)) × (128 ≤ length (now placings)) × (1100 ≤ length (now out)) ⌝ }
+    ensures { λ r. ⌜
+        ((s : SheetTables (graph .n) (graph .parent) (graph .low) (graph .high)) →
+        FirstPage (now (out .entry)) r (now (states .exit)) (now (trail .exit)) (now (placings .exit)) (now (out .exit)) (accepted (s .graph)))
+        ⌝ }
+{
+    let parent = graph.parent;
+    let low = graph.low;
+    let high = graph.high;
+    let mut owner = [0u8; 128];
+    let mut rows = [0u64; 256];
+    let begun = begin(&parent, &low, &high, graph.n, &mut owner, &mut rows);
+    if !begun.solvable {
+        return refuse(Refusal::NoReading, out);
+    }
+    let trees = begun.trees;
+    let stop = walk(&rows, &owner, trees, states, trail, placings);
+    let readings = total(&rows, &owner, trees, stop.last, stop.more);
+    let bytes = count_line(readings, out, 0);
     Page {
-        bytes: end,
-        last: k,
+        bytes,
+        more: true,
+        done: 0,
+        passed: 0,
+        stop,
+        trees,
+        owner,
+    }
+}
+
+// How many bytes are judged.
+fn counts(got: usize) -> usize
+    ensures { λ r. ⌜ r ≡ min got 2048 ⌝ }
+{
+    if got < INPUT { got } else { INPUT }
+}
+
+// The first page, of the first `got` bytes of the input. The place lent for it is as long as what counts, so that nothing of
+// that is left unread.
+pub fn first_page(
+    input: &[u8],
+    got: usize,
+    states: &mut [u64],
+    trail: &mut [u8],
+    placings: &mut [u8],
+    out: &mut [u8],
+) -> Page
+    requires { ⌜ (2048 ≤ length (now input)) × (got ≤ length (now input)) ⌝ }
+    requires { ⌜ (8772 ≤ length (now states)) × (32768 ≤ length (now trail)) × (128 ≤ length (now placings)) × (1100 ≤ length (now out)) ⌝ }
+    ensures { λ r. ⌜
+        FirstPage (now (out .entry)) r (now (states .exit)) (now (trail .exit)) (now (placings .exit)) (now (out .exit))
+        (outcome (judged (take got (now (input .entry)))))
+        ⌝ }
+{
+    let end = counts(got);
+    let answer = read(&input[..end]);
+    let verdict = answer.verdict;
+    let graph = answer.graph;
+    match verdict {
+        Verdict::Refused(why) => refuse(why, out),
+        Verdict::Accepted => begin_list(graph, states, trail, placings, out),
+    }
+}
+
+// With placings to print from: those at hand or, where all of them are printed, those that come next.
+fn refill(page: Page, states: &mut [u64], trail: &mut [u8], placings: &mut [u8]) -> Page
+    requires { ⌜ ((g : graph.Graph) × Underway g page (now states) (now trail) (now placings)) ⌝ }
+    requires { ⌜ (page .more ≡ true) × (32768 ≤ length (now trail)) × (128 ≤ length (now placings)) ⌝ }
+    ensures { λ r. ⌜ r .done < r .stop .last ⌝ }
+    ensures { λ r. ⌜
+        ((g : graph.Graph) → Underway g page (now (states .entry)) (now (trail .entry)) (now (placings .entry)) →
+        Underway g r (now (states .exit)) (now (trail .exit)) (now (placings .exit)) × (r .done ≡ page .done))
+        ⌝ }
+{
+    let stop = page.stop;
+    if page.done < stop.last {
+        return page;
+    }
+    let owner = page.owner;
+    let trees = page.trees;
+    let further = fill(&owner, trees, states, trail, stop, placings);
+    Page {
+        bytes: 0,
+        more: true,
+        done: page.done,
+        passed: page.done,
+        stop: further,
+        trees,
+        owner,
+    }
+}
+
+// Whether lines follow that of the number `done`.
+fn follows(done: usize, stop: Stop) -> bool
+    ensures { λ r. ⌜ r ≡ (stop .more || ltb done (stop .last)) ⌝ }
+{
+    stop.more || done < stop.last
+}
+
+// The page after this one, where another follows.
+pub fn next_page(
+    page: Page,
+    states: &mut [u64],
+    trail: &mut [u8],
+    placings: &mut [u8],
+    out: &mut [u8],
+) -> Page
+    requires { ⌜ ((g : graph.Graph) × Underway g page (now states) (now trail) (now placings)) ⌝ }
+    requires { ⌜ (page .more ≡ true) × (32768 ≤ length (now trail)) × (128 ≤ length (now placings)) × (1100 ≤ length (now out)) ⌝ }
+    ensures { λ r. ⌜
+        ((g : graph.Graph) → Underway g page (now (states .entry)) (now (trail .entry)) (now (placings .entry)) →
+        NextPage g page (now (out .entry)) r (now (states .exit)) (now (trail .exit)) (now (placings .exit)) (now (out .exit)))
+        ⌝ }
+{
+    let held = refill(page, states, trail, placings);
+    let stop = held.stop;
+    let trees = held.trees;
+    let owner = held.owner;
+    let lines = fill_page(placings, trees, held.passed, stop.last, held.done, out);
+    let more = follows(lines.last, stop);
+    Page {
+        bytes: lines.bytes,
+        more,
+        done: lines.last,
+        passed: held.passed,
+        stop,
+        trees,
+        owner,
     }
 }

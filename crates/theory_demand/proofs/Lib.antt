@@ -5,3 +5,4 @@ pub mod Determined
 pub mod Possible
 pub mod Stretches
 pub mod Checking
+pub mod Printing

@@ -1,17 +1,17 @@
 -- The lines of the readings, one after the other, and the line read off one of the placings that stand one after the other.
 use Prim.Native.Nat.{ℕ, zero, suc, _+_, _-_, _*_, _≤_, _<_, min}
-use mathlib.Core.Path.{_≡_, sym, ap, _∙_}
+use mathlib.Core.Path.{_≡_, sym, ap, subst, _∙_}
 use mathlib.Core.List.{List, [], _∷_, _++_, append-assoc, append-nil}
 use mathlib.Core.Bool.{true, false}
 use native.Mathlib.Nat.{zero-mul, suc-mul, mul-le-mul-right}
 use native.Mathlib.Omega.{arith}
-use native.Mathlib.Numerals.{add-one}
 use lib.Dec.{leb}
-use lib.ListN.{length, take, drop, length-append, length-take, length-drop}
-use lib.Seq.{sets-eq, length-take-le, take-at, take-all, take-length, getD-take, getD-drop, drop-append-add}
+use lib.ListN.{length, take, drop, length-append, length-drop}
+use lib.Seq.{length-take-le, take-at, take-all, take-length, getD-take, getD-drop, drop-append-add}
 use borrow.Author.Tests.{leb-true, leb-false}
 use Rattle.base_finite.specs.Stores.{Written, joined}
 use Rattle.base_finite.proofs.Laws.{by-bool}
+use Rattle.base_finite.proofs.Stores.{written-more}
 use Rattle.graph.specs.Graph.{Graph}
 use Rattle.graph.specs.Order.{entry, limit, countAnswer}
 use Rattle.format.specs.Text.{countLine, readingLine, numbered, printed}
@@ -19,12 +19,11 @@ use Rattle.theory_forest.specs.Shape.{Shaped}
 use Rattle.theory_forest.proofs.Forests.{placing-length}
 use Rattle.theory_list.specs.Readings.{listed}
 use Rattle.theory_list.proofs.Readings.{listing-exists}
-use Rattle.base_tables.specs.Trees.{TreesOf, Fits}
+use Rattle.base_tables.specs.Trees.{TreesOf}
 use Rattle.base_tables.specs.declared.trees.Trees.{Trees}
 use Rattle.base_text.specs.Lines.{lineIn}
 use Rattle.base_text.proofs.Lines.{line-is}
-use Rattle.solve_stretch.specs.Stretch.{Filled}
-use Rattle.show_list.specs.Pages.{linesTo, Held}
+use Rattle.show_page.specs.Pages.{lines, Held}
 
 -- one line more
 lines-from : (g : Graph) (j k : ℕ) (ps : List (List ℕ)) → k < length ps
@@ -37,17 +36,46 @@ lines-from g j (suc k) (p ∷ ps) h =
     ∙ sym (append-assoc (readingLine g j p) (joined (numbered g (suc j) (take k ps))) (readingLine g (suc j + k) (entry ps k)))
     ∙ ap (λ (i : ℕ). (readingLine g j p ++ joined (numbered g (suc j) (take k ps))) ++ readingLine g i (entry ps k)) (omega arith)
 
-lines-more : (g : Graph) (k : ℕ) → k < length (listed g) → linesTo g (k + 1) ≡ linesTo g k ++ readingLine g (k + 1) (entry (listed g) k)
-lines-more g k h =
-    ap (λ (i : ℕ). joined (numbered g 1 (take i (listed g)))) (add-one k)
-    ∙ lines-from g 1 k (listed g) h
-    ∙ ap (λ (i : ℕ). linesTo g k ++ readingLine g i (entry (listed g) k)) (omega arith)
+pub lines-more : (g : Graph) (passed k : ℕ) → passed ≤ k → k < length (listed g)
+    → lines g passed (k + 1) ≡ lines g passed k ++ readingLine g (k + 1) (entry (listed g) k)
+lines-more g passed k from h =
+    let ps : List (List ℕ) = drop passed (listed g) in
+    let more : k + 1 - passed ≡ suc (k - passed) = omega (arith, from) in
+    let here : passed + (k - passed) ≡ k = omega (arith, from) in
+    let numbered-so : suc passed + (k - passed) ≡ k + 1 = omega (arith, from) in
+    ap (λ (i : ℕ). joined (numbered g (suc passed) (take i ps))) more
+    ∙ lines-from g (suc passed) (k - passed) ps (omega (arith, length-drop passed (listed g), from, h))
+    ∙ ap (λ (i : ℕ). lines g passed k ++ readingLine g i (entry ps (k - passed))) numbered-so
+    ∙ ap (λ (p : List ℕ). lines g passed k ++ readingLine g (k + 1) p) (getD-drop passed (listed g) (k - passed) [] ∙ ap (entry (listed g)) here)
 
--- what was written, up to its end
-written-to : (old : List ℕ) (from : ℕ) (bs new : List ℕ) (end : ℕ) → from + length bs ≤ length old → Written old from bs new end → take end new ≡ take from old ++ bs
-written-to old from bs new end h w =
-    ap (take end) (w .stored ∙ sets-eq bs old from h)
-    ∙ take-at (take from old ++ bs) (drop (from + length bs) old) end (length-append (take from old) bs ∙ omega (arith, w .after, length-take from old))
+pub lines-none : (g : Graph) (k : ℕ) → lines g k k ≡ []
+unfolding joined numbered
+lines-none g k =
+    let nothing : k - k ≡ 0 = omega arith in
+    ap (λ (i : ℕ). joined (numbered g (suc k) (take i (drop k (listed g))))) nothing
+
+lines-then : (g : Graph) (passed k more : ℕ) → passed ≤ k → k + more ≤ length (listed g) → lines g passed k ++ lines g k (k + more) ≡ lines g passed (k + more)
+lines-then g passed k zero from h =
+    let same : k + 0 ≡ k = omega arith in
+    ap (λ (i : ℕ). lines g passed k ++ lines g k i) same
+    ∙ ap (λ (ls : List ℕ). lines g passed k ++ ls) (lines-none g k)
+    ∙ append-nil (lines g passed k)
+    ∙ ap (lines g passed) (sym same)
+lines-then g passed k (suc more) from h =
+    let one : k + suc more ≡ k + more + 1 = omega arith in
+    let last : List ℕ = readingLine g (k + more + 1) (entry (listed g) (k + more)) in
+    ap (λ (i : ℕ). lines g passed k ++ lines g k i) one
+    ∙ ap (λ (ls : List ℕ). lines g passed k ++ ls) (lines-more g k (k + more) (omega arith) (omega (arith, h)))
+    ∙ sym (append-assoc (lines g passed k) (lines g k (k + more)) last)
+    ∙ ap (λ (ls : List ℕ). ls ++ last) (lines-then g passed k more from (omega (arith, h)))
+    ∙ sym (lines-more g passed (k + more) (omega (arith, from)) (omega (arith, h)))
+    ∙ ap (lines g passed) (sym one)
+
+-- the lines of one page, and those of the next
+pub lines-join : (g : Graph) (passed k last : ℕ) → passed ≤ k → k ≤ last → last ≤ length (listed g) → lines g passed k ++ lines g k last ≡ lines g passed last
+lines-join g passed k last from to h =
+    let is : k + (last - k) ≡ last = omega (arith, to) in
+    ap (λ (i : ℕ). lines g passed k ++ lines g k i) (sym is) ∙ lines-then g passed k (last - k) from (omega (arith, h)) ∙ ap (lines g passed) is
 
 -- placings of n bytes each, one after the other
 module _ (n : ℕ) where
@@ -120,32 +148,26 @@ module _ {t : Trees} {passed last : ℕ} {bytes : List ℕ} (s : Held t passed l
       omega (arith, all, ap length (s .placed) ∙ length-append (joined ps) (s .rest))
 
   -- the line of the one with the number k + 1
-  pub line-written : (done k at : ℕ) → passed ≤ k → k < last → at ≡ (k - passed) * t .n
-      → (old : List ℕ) (start : ℕ) (new : List ℕ) (end : ℕ) → end ≤ length old
-      → Written old start (lineIn (t .n) (t .roots) (take (length bytes - at) (drop at bytes)) (k + 1)) new end
-      → linesTo (s .graph) done ++ take start old ≡ linesTo (s .graph) k → linesTo (s .graph) done ++ take end new ≡ linesTo (s .graph) (k + 1)
-  line-written done k at after before is old start new end h w lines =
+  pub line-written : (done k at : ℕ) → passed ≤ done → done ≤ k → k < last → at ≡ (k - passed) * t .n
+      → (old : List ℕ) (mid : List ℕ) (start : ℕ) (new : List ℕ) (end : ℕ)
+      → Written mid start (lineIn (t .n) (t .roots) (take (length bytes - at) (drop at bytes)) (k + 1)) new end
+      → Written old 0 (lines (s .graph) done k) mid start → Written old 0 (lines (s .graph) done (k + 1)) new end
+  line-written done k at after so-far before is old mid start new end w lines-so-far =
       let g : Graph = s .graph in
       let part : List ℕ = take (length bytes - at) (drop at bytes) in
       let ps : List (List ℕ) = some (s .shaped) (s .trees) passed last from (s .within) in
-      let here : passed + (k - passed) ≡ k = omega (arith, after) in
+      let here : passed + (k - passed) ≡ k = omega (arith, after, so-far) in
       let row : take (t .n) part ≡ entry (listed g) k =
       ap (take (t .n)) (rest-is at bytes ∙ ap (λ (m : ℕ). drop m bytes) is ∙ ap (drop ((k - passed) * t .n)) (s .placed))
       ∙ row-of (t .n) ps (some-long (s .shaped) (s .trees) passed last from (s .within)) (s .rest) (k - passed)
-      (omega (arith, some-length (s .shaped) (s .trees) passed last from (s .within), after, before))
-      ∙ some-entry (s .shaped) (s .trees) passed last from (s .within) (k - passed) (omega (arith, after, before))
+      (omega (arith, some-length (s .shaped) (s .trees) passed last from (s .within), after, so-far, before))
+      ∙ some-entry (s .shaped) (s .trees) passed last from (s .within) (k - passed) (omega (arith, after, so-far, before))
       ∙ ap (entry (listed g)) here in
       let text : lineIn (t .n) (t .roots) part (k + 1) ≡ readingLine g (k + 1) (entry (listed g) k) =
       line-is (t .roots) (t .n) part (k + 1) g (s .trees .nodes) (s .trees .roots-are) ∙ ap (readingLine g (k + 1)) row in
-      ap (λ (bs : List ℕ). linesTo g done ++ bs) (written-to old start _ new end (omega (arith, w .after)) w ∙ ap (λ (bs : List ℕ). take start old ++ bs) text)
-      ∙ sym (append-assoc (linesTo g done) (take start old) (readingLine g (k + 1) (entry (listed g) k)))
-      ∙ ap (λ (bs : List ℕ). bs ++ readingLine g (k + 1) (entry (listed g) k)) lines
-      ∙ sym (lines-more g k (omega (arith, before, s .within)))
-
--- what a walk has handed out
-pub filled-held : {g : Graph} {t : Trees} {owners : List ℕ} → Fits g t owners → {passed last : ℕ} {old new : List ℕ} → Filled g passed old last new → Held t passed last new
-filled-held {g} f w =
-    record { graph = g; shaped = f .shaped; trees = f .trees; within = omega (arith, w .within); rest = _; placed = w .bytes }
+      let all : lines g done k ++ lineIn (t .n) (t .roots) part (k + 1) ≡ lines g done (k + 1) =
+      ap (λ (bs : List ℕ). lines g done k ++ bs) text ∙ sym (lines-more g done k so-far (omega (arith, before, s .within))) in
+      subst (λ (bs : List ℕ). Written old 0 bs new end) all (written-more old 0 (lines g done k) mid start _ new end lines-so-far w)
 
 take-reach : (ps : List (List ℕ)) (k : ℕ) → take k ps ≡ take (min (length ps) k) ps
 take-reach ps k =
@@ -156,7 +178,10 @@ take-reach ps k =
     let all : min (length ps) k ≡ length ps = omega (arith, leb-false k (length ps) e) in
     take-all k ps (omega (arith, leb-false k (length ps) e)) ∙ sym (ap (λ (m : ℕ). take m ps) all ∙ take-length ps))
 
--- the printed list is its first line and those of all the pages
-pub printed-is : (g : Graph) → joined (printed g (listed g)) ≡ countLine (countAnswer (length (listed g))) ++ linesTo g (min (length (listed g)) limit)
+-- the printed list is its first line and those of all the readings with a number
+pub printed-is : (g : Graph) → joined (printed g (listed g)) ≡ countLine (countAnswer (length (listed g))) ++ lines g 0 (min (length (listed g)) limit)
 unfolding joined printed
-printed-is g = ap (λ (ps : List (List ℕ)). countLine (countAnswer (length (listed g))) ++ joined (numbered g 1 ps)) (take-reach (listed g) limit)
+printed-is g =
+    let all : min (length (listed g)) limit ≡ min (length (listed g)) limit - 0 = omega arith in
+    ap (λ (ps : List (List ℕ)). countLine (countAnswer (length (listed g))) ++ joined (numbered g 1 ps))
+    (take-reach (listed g) limit ∙ ap (λ (m : ℕ). take m (listed g)) all)

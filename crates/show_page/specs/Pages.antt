@@ -1,8 +1,8 @@
--- A page of the printed list.
-use Prim.Native.Nat.{ℕ, _≤_}
+-- The lines of a page.
+use Prim.Native.Nat.{ℕ, suc, _-_, _≤_}
 use mathlib.Core.Path.{_≡_}
 use mathlib.Core.List.{List, _++_}
-use lib.ListN.{length, take}
+use lib.ListN.{length, take, drop}
 use Rattle.graph.specs.Graph.{Graph}
 use Rattle.format.specs.Text.{numbered}
 use Rattle.theory_forest.specs.Shape.{Shaped}
@@ -11,11 +11,10 @@ use Rattle.base_finite.specs.Stores.{joined}
 use Rattle.base_tables.specs.Trees.{TreesOf}
 use Rattle.base_tables.specs.declared.trees.Trees.{Trees}
 use Rattle.solve_stretch.specs.Stretch.{placings}
-use Rattle.show_list.specs.declared.Page.{Page}
 
--- the lines of the readings up to the number k
-abbrev pub linesTo : Graph → ℕ → List ℕ
-linesTo g k = joined (numbered g 1 (take k (listed g)))
+-- the lines of the readings after the first `passed`, up to the number `last`
+abbrev pub lines : Graph → ℕ → ℕ → List ℕ
+lines g passed last = joined (numbered g (suc passed) (take (last - passed) (drop passed (listed g))))
 
 -- a graph with these trees, and the placings of its readings after the first `passed`, up to the number `last`, come first in the
 -- bytes
@@ -26,7 +25,3 @@ pub record Held (t : Trees) (passed last : ℕ) (bytes : List ℕ) : Type 0 wher
   pub within : last ≤ length (listed graph)
   pub rest : List ℕ
   pub placed : bytes ≡ placings (listed graph) passed last ++ rest
-
--- the bytes of the page are those lines that come after the first `passed`, up to its last
-abbrev pub PageOf : Graph → ℕ → List ℕ → Page → Type 0
-PageOf g passed out r = linesTo g passed ++ take (r .bytes) out ≡ linesTo g (r .last)

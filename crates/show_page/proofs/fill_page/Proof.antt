@@ -1,16 +1,18 @@
 -- The lines of the readings up to k are written, and the next placing stands at its row.
-use Prim.Native.Nat.{_+_, _-_, _*_, _≤_}
-use mathlib.Core.Path.{_≡_, refl}
-use mathlib.Core.List.{_++_, append-nil}
+use Prim.Native.Nat.{ℕ, _+_, _-_, _*_, _≤_}
+use mathlib.Core.Path.{_≡_, refl, sym, subst}
+use mathlib.Core.List.{List}
 use native.Mathlib.Nat.{mul-le-mul}
 use native.Mathlib.Omega.{arith}
 use denote.Ref.{now}
-use lib.ListN.{length, take}
-use Rattle.show_list.specs.Pages.{linesTo, Held}
-use Rattle.show_list.proofs.Lines.{row-next, row-within, rest-length, held-room, line-written}
+use lib.ListN.{length}
+use Rattle.base_finite.specs.Stores.{Written}
+use Rattle.base_finite.proofs.Stores.{written-none}
+use Rattle.show_page.specs.Pages.{lines, Held}
+use Rattle.show_page.proofs.Texts.{lines-none, row-next, row-within, rest-length, held-room, line-written}
 use borrow.Author.Needs.{needs}
-use Rattle.show_list.proofs.fill_page.Statement.{statement}
-use Rattle.show_list.proofs.fill_page.Tie as tie
+use Rattle.show_page.proofs.fill_page.Statement.{statement}
+use Rattle.show_page.proofs.fill_page.Tie as tie
 
 abbrev Inv-loop : tie.InvT-loop
 Inv-loop placings trees passed last done out₀ n at₀ k₀ end₀ out at k end =
@@ -18,7 +20,7 @@ Inv-loop placings trees passed last done out₀ n at₀ k₀ end₀ out at k end
     × (at ≡ (k - passed) * n)
     × (end + 1100 ≤ length out)
     × (length out ≡ length out₀)
-    × ((s : Held trees passed last placings) → linesTo (s .graph) done ++ take end out ≡ linesTo (s .graph) k)
+    × ((s : Held trees passed last placings) → Written out₀ 0 (lines (s .graph) done k) out end)
 
 abbrev μ-loop : tie.MeasureT-loop
 μ-loop placings trees passed last done out₀ n at₀ k₀ end₀ out at k end = last - k
@@ -34,7 +36,9 @@ mul-at c =
 
 loop-holds : tie.Need-loop-holds Inv-loop μ-loop
 loop-holds c =
-    let p = c .before .before .pre in ((p .0 .1, omega arith, p .0 .2), refl, p .1 .1, refl, λ s. append-nil (linesTo (s .graph) (c .before .before .args .done)))
+    let p = c .before .before .pre in
+    let old : List ℕ = now (c .before .before .args .out) in
+    ((p .0 .1, omega arith, p .0 .2), refl, p .1 .1, refl, λ s. subst (λ (bs : List ℕ). Written old 0 bs old 0) (sym (lines-none (s .graph) (c .before .before .args .done))) (written-none old 0))
 
 add-k : tie.Need-add-k Inv-loop μ-loop
 add-k c = omega (arith, c .before .loop .inv .0, c .before .before .before .before .pre .0 .3)
@@ -76,9 +80,9 @@ returns : tie.Need-returns Inv-loop μ-loop
 returns c =
     let l = c .before .before .before .before .before .before .before .loop in
     let w = c .before .before .before .reading-line in (
-      (search needs, omega (arith, c .before .before .before .before .before .before .loop-test .taken), λ _. omega (arith, l .inv .0)),
+      (search needs, omega (arith, c .before .before .before .before .before .before .loop-test .taken), omega (arith, l .inv .0), λ _. omega (arith, l .inv .0)),
       λ s.
-          line-written s (omega (arith, l .inv .0)) (c .before .before .before .before .before .before .before .before .before .before .args .done) _ _ (l .inv .0 .0) (c .before .before .before .before .before .before .loop-test .taken) (l .inv .1) _ _ _ _ (w .ensures .1) (w .ensures .0)
+          line-written s (omega (arith, l .inv .0)) (c .before .before .before .before .before .before .before .before .before .before .args .done) _ _ (c .before .before .before .before .before .before .before .before .before .before .pre .0 .1) (l .inv .0 .1) (c .before .before .before .before .before .before .loop-test .taken) (l .inv .1) _ _ _ _ _ (w .ensures .0)
           (l .inv .4 s),
     )
 
@@ -94,7 +98,7 @@ loop-again c =
       search needs,
       search needs,
       λ s.
-          line-written s (omega (arith, l .inv .0)) (c .before .before .before .before .before .before .before .before .before .before .args .done) _ _ (l .inv .0 .0) (c .before .before .before .before .before .before .loop-test .taken) (l .inv .1) _ _ _ _ (w .ensures .1) (w .ensures .0)
+          line-written s (omega (arith, l .inv .0)) (c .before .before .before .before .before .before .before .before .before .before .args .done) _ _ (c .before .before .before .before .before .before .before .before .before .before .pre .0 .1) (l .inv .0 .1) (c .before .before .before .before .before .before .loop-test .taken) (l .inv .1) _ _ _ _ _ (w .ensures .0)
           (l .inv .4 s),
     )
 
@@ -103,7 +107,7 @@ same-length-2 c = search needs
 
 returns-2 : tie.Need-returns-2 Inv-loop μ-loop
 returns-2 c =
-    let l = c .before .loop in ((omega (arith, l .inv .2), l .inv .0 .2, λ some. omega (arith, l .inv .0, c .loop-test .left)), λ s. l .inv .4 s)
+    let l = c .before .loop in ((omega (arith, l .inv .2), l .inv .0 .2, l .inv .0 .1, λ some. omega (arith, l .inv .0, c .loop-test .left)), λ s. l .inv .4 s)
 
 pub fill-page-spec : {M : Type 1} → statement M
 fill-page-spec =

@@ -8,8 +8,8 @@ use Rattle.graph.specs.Order.{limit, countAnswer}
 use Rattle.graph.specs.declared.Count.the-variants.{Exactly}
 use Rattle.theory_list.specs.Readings.{listed}
 use borrow.Author.Needs.{needs}
-use Rattle.readings.proofs.total.Statement.{statement}
-use Rattle.readings.proofs.total.Tie as tie
+use Rattle.show_list.proofs.total.Statement.{statement}
+use Rattle.show_list.proofs.total.Tie as tie
 
 exactly : (all last : ℕ) → last ≡ min all limit → last < limit → Exactly last ≡ countAnswer all
 unfolding countAnswer

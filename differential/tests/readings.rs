@@ -1,0 +1,123 @@
+//! The program `readings` from its input to what it writes, held against the second implementation: document 01's "The printed
+//! list". `rt check readings` makes the program.
+use differential::listing::{self, Leave};
+use differential::placing::hung;
+use differential::random::Random;
+use differential::{sheet, sheets, LAST};
+use std::fmt::Write as _;
+use std::io::Write as _;
+use std::path::PathBuf;
+use std::process::{Command, Stdio};
+
+/// What the program writes on this input.
+fn run(input: &[u8]) -> String {
+    let program = PathBuf::from(env!("CARGO_MANIFEST_DIR")).join("../target/bin/readings");
+    let mut child = Command::new(&program).stdin(Stdio::piped()).stdout(Stdio::piped()).spawn().expect("rt check readings makes it");
+    // The program reads no more than counts.
+    let _ = child.stdin.take().unwrap().write_all(input);
+    String::from_utf8(child.wait_with_output().unwrap().stdout).unwrap()
+}
+
+/// What document 01 says that it writes.
+fn printed(input: &[u8]) -> String {
+    let judged = &input[..input.len().min(2048)];
+    let graph = match sheet::read(judged) {
+        Ok(graph) => graph,
+        Err(number) => return format!("refused {number}\n"),
+    };
+    let readings = listing::first(&graph, LAST as usize + 1, Leave::Unsolvable, usize::MAX).unwrap();
+    let mut text = match readings.len() as u64 {
+        0 => return "refused 9\n".to_string(),
+        count if count > LAST => "readings more than 65535\n".to_string(),
+        count => format!("readings {count}\n"),
+    };
+    for (number, placing) in (1..=LAST).zip(&readings) {
+        write!(text, "{number}").unwrap();
+        let mut roots: Vec<_> = hung(placing).map(|(leaf, root)| (root, leaf)).collect();
+        roots.sort_unstable();
+        for (root, leaf) in roots {
+            write!(text, " {root}:{leaf}").unwrap();
+        }
+        text.push('\n');
+    }
+    text
+}
+
+/// The program and the document say the same, and it begins so.
+fn agree(input: &[u8], begins: &str) {
+    let wanted = printed(input);
+    assert!(wanted.starts_with(begins), "{begins:?} is not how {:?} begins", wanted.lines().next());
+    let given = run(input);
+    if let Some((line, (given, wanted))) = given.lines().zip(wanted.lines()).enumerate().find(|(_, (given, wanted))| given != wanted) {
+        panic!("line {}: {given:?}, not {wanted:?}", line + 1);
+    }
+    assert_eq!(given.len(), wanted.len());
+}
+
+const CHAIN_OF_TWO: &str = "readings 2\n1 3:2 6:1 8:4 10:5\n2 0:4 6:1 8:2 10:5\n";
+
+#[test]
+fn the_chain_of_two() {
+    assert_eq!(run(&sheets::chain(2)), CHAIN_OF_TWO);
+    agree(&sheets::chain(2), CHAIN_OF_TWO);
+}
+
+/// As many fragments of two nodes, and these dominance edges.
+fn pairs(fragments: usize, dominance: &[(usize, usize)]) -> Vec<u8> {
+    let tree: Vec<_> = (0..fragments).map(|i| (2 * i, 2 * i + 1)).collect();
+    sheet::write(2 * fragments, &tree, dominance)
+}
+
+#[test]
+fn each_refusal() {
+    agree(&[], "refused 1\n");
+    agree(&[5], "refused 2\n");
+    agree(&[1, 1], "refused 3\n");
+    agree(&[1, 2, 2, 0, 0, 0], "refused 4\n");
+    agree(&[1, 2, 0], "refused 5\n");
+    agree(&pairs(2, &[(0, 2)]), "refused 6\n");
+    agree(&pairs(2, &[(1, 2), (1, 2)]), "refused 7\n");
+    let many: Vec<_> = (0..16).flat_map(|leaf| (16..32).map(move |root| (2 * leaf + 1, 2 * root))).collect();
+    agree(&pairs(32, &many), "refused 8\n");
+    agree(&pairs(1, &[(1, 0)]), "refused 9\n");
+}
+
+/// Lists of one page of lines, of two, of several, and where the placings are filled again.
+#[test]
+fn lists_of_several_pages() {
+    let counts = [(3, 5), (7, 429), (8, 1430), (9, 4862), (10, 16796)];
+    for (length, count) in counts {
+        agree(&sheets::chain(length), &format!("readings {count}\n"));
+    }
+    let long = |length| printed(&sheets::chain(length)).len();
+    assert!((1..65_536).contains(&long(7)) && (65_536..2 * 65_536).contains(&long(8)), "pages of 65,536 bytes");
+}
+
+/// Nine fragments above one: 9! readings.
+#[test]
+fn more_than_there_are_numbers() {
+    let above: Vec<_> = (0..9).map(|i| (2 * i + 1, 18)).collect();
+    agree(&pairs(10, &above), "readings more than 65535\n1 ");
+}
+
+/// What stands after 2,048 bytes does not count, and what stands before it does.
+#[test]
+fn inputs_of_2048_bytes_and_more() {
+    let mut longest = pairs(64, &(0..255).map(|i| (2 * (i % 16) + 1, 2 * (16 + i / 16))).collect::<Vec<_>>());
+    assert_eq!(longest.len(), 2 + 3 * 64 + 3 * 255 + 1);
+    agree(&longest, "readings more than 65535\n1 ");
+    for length in [2047, 2048, 2049, 100_000] {
+        longest.resize(length, 0);
+        agree(&longest, "refused 2\n");
+        agree(&vec![0; length], "refused 2\n");
+    }
+}
+
+#[test]
+fn random_sheets() {
+    for seed in 0..150 {
+        let mut random = Random::new(seed);
+        let graph = sheets::random_graph(&mut random, 24);
+        agree(&sheets::untidy(&mut random, &graph), "re");
+    }
+}
