@@ -30,18 +30,19 @@ pub struct Found {
     pub wrong: usize,
 }
 
-// The list, against the second solver's.
-fn listed(
-    sheet: &[u8],
+// How many nodes, dominance edges and readings a sheet has.
+struct Size {
     n: usize,
-    parent: &[u8],
-    leaves: &[u8],
-    roots: &[u8],
     edges: usize,
     readings: usize,
-) -> usize {
+}
+
+// The list, against the second solver's.
+fn listed(sheet: &[u8], parent: &[u8], leaves: &[u8], roots: &[u8], size: Size) -> usize {
+    let n = size.n;
+    let readings = size.readings;
     let mut table = io::large_buffer();
-    let rows = test_second::list(parent, n, leaves, roots, edges, readings, &mut table);
+    let rows = test_second::list(parent, n, leaves, roots, size.edges, readings, &mut table);
     let mut wrong = fails(rows == readings);
     wrong = plus(wrong, same_list(sheet, n, &table, rows));
     plus(wrong, same_verdict(sheet, n, &table, rows))
@@ -70,7 +71,8 @@ pub fn trial(sheet: &[u8]) -> Found {
     }
     wrong = plus(wrong, solvable(sheet, n, edges, readings));
     if readings <= limit(n) {
-        let more = listed(sheet, n, &parent, &leaves, &roots, edges, readings);
+        let size = Size { n, edges, readings };
+        let more = listed(sheet, &parent, &leaves, &roots, size);
         wrong = plus(wrong, more);
     }
     Found { readings, wrong }
