@@ -59,7 +59,8 @@ pub data FirstPage (old : List ℕ) (r : Page) (states trail held new : List ℕ
   no-reading : {g : Graph} → Unsolvable g → Refuses NoReading old r new → FirstPage old r states trail held new (accepted g)
   line-1 : {g : Graph} → Begins g old r states trail held new → FirstPage old r states trail held new (accepted g)
 
--- a further page of the list of g: the lines after those that are printed
+-- a further page of the list of g: one or more of the lines after those that are printed. Where it ends is left open: document 01 does
+-- not speak of pages.
 pub record NextPage (g : Graph) (p : Page) (old : List ℕ) (r : Page) (states trail held new : List ℕ) : Type 0 where
   pub shown : Shows (lines g (p .done) (r .done)) old r new
   pub further : p .done < r .done
