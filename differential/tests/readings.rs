@@ -6,16 +6,42 @@ use differential::random::Random;
 use differential::{sheet, sheets, LAST};
 use std::fmt::Write as _;
 use std::io::Write as _;
+use std::os::fd::OwnedFd;
+use std::os::unix::net::UnixDatagram;
 use std::path::PathBuf;
-use std::process::{Command, Stdio};
+use std::process::{Child, Command, Stdio};
+use std::time::Duration;
+
+/// The program, started on this input.
+fn start(input: &[u8], out: Stdio) -> Child {
+    let program = PathBuf::from(env!("CARGO_MANIFEST_DIR")).join("../target/bin/readings");
+    let mut child =
+        Command::new(&program).stdin(Stdio::piped()).stdout(out).spawn().expect("rt check readings makes it");
+    // The program reads no more than counts.
+    let _ = child.stdin.take().unwrap().write_all(input);
+    child
+}
 
 /// What the program writes on this input.
 fn run(input: &[u8]) -> String {
-    let program = PathBuf::from(env!("CARGO_MANIFEST_DIR")).join("../target/bin/readings");
-    let mut child = Command::new(&program).stdin(Stdio::piped()).stdout(Stdio::piped()).spawn().expect("rt check readings makes it");
-    // The program reads no more than counts.
-    let _ = child.stdin.take().unwrap().write_all(input);
-    String::from_utf8(child.wait_with_output().unwrap().stdout).unwrap()
+    String::from_utf8(start(input, Stdio::piped()).wait_with_output().unwrap().stdout).unwrap()
+}
+
+/// The same page by page: a socket for datagrams keeps what is written at once apart.
+fn pages(input: &[u8]) -> Vec<String> {
+    let (ours, theirs) = UnixDatagram::pair().unwrap();
+    ours.set_read_timeout(Some(Duration::from_millis(20))).unwrap();
+    let mut child = start(input, OwnedFd::from(theirs).into());
+    let mut pages = Vec::new();
+    let mut bytes = vec![0; 1 << 20];
+    loop {
+        let ended = child.try_wait().unwrap().is_some();
+        match ours.recv(&mut bytes) {
+            Ok(length) => pages.push(String::from_utf8(bytes[..length].to_vec()).unwrap()),
+            Err(_) if ended => return pages,
+            Err(_) => {}
+        }
+    }
 }
 
 /// What document 01 says that it writes.
@@ -48,7 +74,9 @@ fn agree(input: &[u8], begins: &str) {
     let wanted = printed(input);
     assert!(wanted.starts_with(begins), "{begins:?} is not how {:?} begins", wanted.lines().next());
     let given = run(input);
-    if let Some((line, (given, wanted))) = given.lines().zip(wanted.lines()).enumerate().find(|(_, (given, wanted))| given != wanted) {
+    if let Some((line, (given, wanted))) =
+        given.lines().zip(wanted.lines()).enumerate().find(|(_, (given, wanted))| given != wanted)
+    {
         panic!("line {}: {given:?}, not {wanted:?}", line + 1);
     }
     assert_eq!(given.len(), wanted.len());
@@ -82,15 +110,25 @@ fn each_refusal() {
     agree(&pairs(1, &[(1, 0)]), "refused 9\n");
 }
 
-/// Lists of one page of lines, of two, of several, and where the placings are filled again.
+/// Line 1, and then one page of lines, two of them, or three.
 #[test]
-fn lists_of_several_pages() {
-    let counts = [(3, 5), (7, 429), (8, 1430), (9, 4862), (10, 16796)];
-    for (length, count) in counts {
+fn page_by_page() {
+    let chain = |length| sheet::read(&sheets::chain(length)).unwrap();
+    let beside = sheet::tidy(&sheets::side_by_side(&[chain(7), chain(2)]));
+    for (input, count, of_lines) in [(sheets::chain(7), 429, 1), (beside, 2 * 429, 2), (sheets::chain(8), 1430, 3)] {
+        let pages = pages(&input);
+        assert_eq!(pages[0], format!("readings {count}\n"));
+        assert_eq!(pages.len(), 1 + of_lines);
+        assert!(pages.concat() == printed(&input), "the list of {count} readings");
+    }
+}
+
+/// Lists of one page, of several, and where the placings are filled again.
+#[test]
+fn chains() {
+    for (length, count) in [(3, 5), (7, 429), (8, 1430), (9, 4862), (10, 16796)] {
         agree(&sheets::chain(length), &format!("readings {count}\n"));
     }
-    let long = |length| printed(&sheets::chain(length)).len();
-    assert!((1..65_536).contains(&long(7)) && (65_536..2 * 65_536).contains(&long(8)), "pages of 65,536 bytes");
 }
 
 /// Nine fragments above one: 9! readings.

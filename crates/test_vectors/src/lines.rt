@@ -1,14 +1,13 @@
 // What is printed: lines for a sheet with a name, and the sums.
 use crate::Sums;
+use crate::answers::MARK;
+use crate::answers::part;
+use crate::answers::plus;
+use capi_put::put_drawn;
 use counter::Place;
 use counter::configuration;
 use counter::drawing;
 use libc::STDOUT_FILENO;
-use test_calls::answers::MARK;
-use test_calls::answers::drawn_bytes;
-use test_calls::answers::plus;
-use test_calls::unpack::nodes_of;
-use test_calls::unpack::part;
 use test_second::table::byte;
 
 fn text(words: &[u8]) {
@@ -41,15 +40,17 @@ fn reading_lines(sheet: &[u8], readings: usize) {
         let next = place.next(sheet, &mut out);
         place = next.place;
         decimal(plus(number, 1));
-        placing_line(&out, nodes_of(sheet));
+        placing_line(&out, byte(sheet, 1));
     }
 }
 
 fn drawing_line(sheet: &[u8]) {
     let mut page = [MARK; 1024];
     let answer = drawing(sheet, 1, &mut page);
+    let mut bytes = 0;
+    put_drawn(answer, &mut bytes);
     text(b"drawing ");
-    text(part(&page, drawn_bytes(answer)));
+    text(part(&page, bytes as usize));
     text(b"\n");
 }
 
@@ -57,7 +58,7 @@ fn configuration_line(sheet: &[u8]) {
     let mut out = [MARK; 256];
     configuration(sheet, &mut out);
     text(b"configuration");
-    placing_line(&out, nodes_of(sheet));
+    placing_line(&out, byte(sheet, 1));
 }
 
 // A short list's readings, configuration and first drawing besides.

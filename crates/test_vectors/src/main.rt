@@ -1,15 +1,18 @@
 // Takes the sheets of its input through the public calls, each against the second solver: the cases of document 01, the chains
 // of Section 9 of document 000, and generated ones. A mismatch is an answer that is not what the documents and the second
 // solver say.
+mod answers;
 mod lines;
+mod refused;
+mod solved;
 mod trial;
 
+use answers::fails;
+use answers::is_cycle;
+use answers::plus;
 use lines::case;
 use lines::summary;
-use test_calls::answers::fails;
-use test_calls::answers::is_cycle;
-use test_calls::answers::plus;
-use test_calls::refused::malformed;
+use refused::malformed;
 use test_second::table::byte;
 use trial::Found;
 use trial::trial;

@@ -2,32 +2,29 @@ use Prim.Native.Nat.{_-_}
 use mathlib.Core.Path.{_≡_}
 use lib.ListN.{length}
 use borrow.Author.Needs.{needs}
-use Rattle.test_calls.proofs.solved.same_list.Statement.{statement}
-use Rattle.test_calls.proofs.solved.same_list.Tie as tie
+use Rattle.test_vectors.proofs.solved.same_list.Statement.{statement}
+use Rattle.test_vectors.proofs.solved.same_list.Tie as tie
 
 abbrev Inv-loop : tie.InvT-loop
-Inv-loop sheet n table rows seen₀ wrong₀ place₀ -row₀ seen wrong place -row = length seen ≡ 2048
+Inv-loop sheet n table rows seen₀ wrong₀ row₀ seen wrong row = length seen ≡ 2048
 
 abbrev μ-loop : tie.MeasureT-loop
-μ-loop sheet n table rows seen₀ wrong₀ place₀ -row₀ seen wrong place -row = rows - -row
-
-start-requires : tie.Need-start-requires Inv-loop μ-loop
-start-requires c κs = search needs
+μ-loop sheet n table rows seen₀ wrong₀ row₀ seen wrong row = rows - row
 
 loop-holds : tie.Need-loop-holds Inv-loop μ-loop
 loop-holds c = search needs
 
-slice-aggregate-step : tie.Need-slice-aggregate-step Inv-loop μ-loop
-slice-aggregate-step c = search needs
+slice-aggregate-same-reading : tie.Need-slice-aggregate-same-reading Inv-loop μ-loop
+slice-aggregate-same-reading c = search needs
 
-step-requires : tie.Need-step-requires Inv-loop μ-loop
-step-requires c κs = search needs
+same-reading-requires : tie.Need-same-reading-requires Inv-loop μ-loop
+same-reading-requires c κs = search needs
 
 plus-requires : tie.Need-plus-requires Inv-loop μ-loop
 plus-requires c κs = search needs
 
-add--row : tie.Need-add--row Inv-loop μ-loop
-add--row c = search needs
+add-row : tie.Need-add-row Inv-loop μ-loop
+add-row c = search needs
 
 loop-less : tie.Need-loop-less Inv-loop μ-loop
 loop-less c = search needs
@@ -50,12 +47,11 @@ same-list-spec =
     (tie.spec
     Inv-loop
     μ-loop
-    start-requires
     loop-holds
-    slice-aggregate-step
-    step-requires
+    slice-aggregate-same-reading
+    same-reading-requires
     plus-requires
-    add--row
+    add-row
     loop-less
     loop-again
     at-end-requires

@@ -1,7 +1,7 @@
 use Prim.Native.Nat.{_-_}
 use borrow.Author.Needs.{needs}
-use Rattle.test_calls.proofs.solved.same_row.Statement.{statement}
-use Rattle.test_calls.proofs.solved.same_row.Tie as tie
+use Rattle.test_vectors.proofs.solved.same_row.Statement.{statement}
+use Rattle.test_vectors.proofs.solved.same_row.Tie as tie
 
 abbrev Inv-loop : tie.InvT-loop
 Inv-loop table start placing n v₀ v = Unit {0}

@@ -1,7 +1,7 @@
 use Prim.Native.Nat.{_-_}
 use borrow.Author.Needs.{needs}
-use Rattle.test_calls.proofs.solved.row_of.Statement.{statement}
-use Rattle.test_calls.proofs.solved.row_of.Tie as tie
+use Rattle.test_vectors.proofs.solved.row_of.Statement.{statement}
+use Rattle.test_vectors.proofs.solved.row_of.Tie as tie
 
 abbrev Inv-loop : tie.InvT-loop
 Inv-loop table rows placing n start₀ row₀ start row = Unit {0}

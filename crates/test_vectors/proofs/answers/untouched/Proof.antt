@@ -2,8 +2,8 @@ use Prim.Native.Nat.{_-_}
 use mathlib.Core.Path.{_≡_}
 use lib.ListN.{length}
 use borrow.Author.Needs.{needs}
-use Rattle.test_calls.proofs.answers.untouched.Statement.{statement}
-use Rattle.test_calls.proofs.answers.untouched.Tie as tie
+use Rattle.test_vectors.proofs.answers.untouched.Statement.{statement}
+use Rattle.test_vectors.proofs.answers.untouched.Tie as tie
 
 abbrev Inv-loop : tie.InvT-loop
 Inv-loop out from i₀ i-end i = i-end ≡ length out

@@ -1,37 +1,29 @@
 // A sheet with solved forms: the count, the list, the configuration and drawings. Each function counts the answers that are not
 // as they must be.
 use crate::answers::MARK;
+use crate::answers::checked;
 use crate::answers::configuration_in;
-use crate::answers::drawn;
-use crate::answers::drawn_bytes;
 use crate::answers::fails;
-use crate::answers::is_configuration;
-use crate::answers::is_reading;
-use crate::answers::is_solved;
 use crate::answers::lent;
 use crate::answers::next_in;
-use crate::answers::placed;
 use crate::answers::plus;
 use crate::answers::untouched;
-use counter::Counted;
+use capi_put::put_count;
+use capi_put::put_drawn;
+use capi_put::put_next;
+use capi_put::put_placed;
 use counter::Place;
+use counter::configuration;
 use counter::count;
 use counter::drawing;
-use graph::Count;
 use test_second::table::byte;
 use test_second::table::put;
 
-// Stands for every count that is larger than 65,535.
-pub const MORE: usize = 65536;
-
+// 65,536 stands for every count that is larger than 65,535.
 pub fn same_count(sheet: &[u8], readings: usize) -> usize {
-    match count(sheet) {
-        Counted::Refused(_) => 1,
-        Counted::Readings(number) => match number {
-            Count::Exactly(k) => fails(k == readings),
-            Count::More => fails(readings == MORE),
-        },
-    }
+    let mut counted = 0;
+    let wrong = fails(put_count(count(sheet), &mut counted) == 0);
+    plus(wrong, fails(counted == readings as u64))
 }
 
 fn same_row(table: &[u8], start: usize, placing: &[u8], n: usize) -> bool {
@@ -68,46 +60,38 @@ fn new_row(table: &[u8], rows: usize, placing: &[u8], n: usize, seen: &mut [u8])
     true
 }
 
-struct Passed {
-    place: Place,
-    wrong: usize,
-}
-
-// The reading after the place: a row of the second solver's that has not come before.
-fn step(
+// The reading with this number: a row of the second solver's that has not come before.
+fn same_reading(
     sheet: &[u8],
     n: usize,
-    place: Place,
+    number: usize,
     table: &[u8],
     rows: usize,
     seen: &mut [u8],
-) -> Passed {
-    let before = place.number;
+) -> usize {
+    let before = Place { number };
     let mut out = [MARK; 256];
-    let next = next_in(sheet, place, &mut out, lent(n));
-    let after = next.place;
-    let answer = next.answer;
-    let mut wrong = fails(placed(answer) == 0);
-    wrong = plus(wrong, fails(after.number == plus(before, 1)));
+    let next = next_in(sheet, before, &mut out, lent(n));
+    let mut after = 0;
+    let mut pairs = 0;
+    let mut wrong = fails(put_next(next, &mut after, &mut pairs) == 0);
+    wrong = plus(wrong, fails(after as usize == plus(number, 1)));
     wrong = plus(wrong, fails(untouched(&out, n)));
-    wrong = plus(wrong, fails(is_solved(sheet, &out)));
-    wrong = plus(wrong, fails(is_reading(sheet, &out)));
-    wrong = plus(wrong, fails(new_row(table, rows, &out, n, seen)));
-    Passed {
-        place: after,
-        wrong,
-    }
+    let answers = checked(sheet, &out);
+    wrong = plus(wrong, fails(answers.solved));
+    wrong = plus(wrong, fails(answers.reading));
+    plus(wrong, fails(new_row(table, rows, &out, n, seen)))
 }
 
 // Beyond the last reading: the place stays.
-fn at_end(sheet: &[u8], place: Place) -> usize {
-    let before = place.number;
+fn at_end(sheet: &[u8], number: usize) -> usize {
+    let last = Place { number };
     let mut out = [MARK; 256];
-    let next = place.next(sheet, &mut out);
-    let after = next.place;
-    let answer = next.answer;
-    let mut wrong = fails(placed(answer) == 11);
-    wrong = plus(wrong, fails(after.number == before));
+    let next = last.next(sheet, &mut out);
+    let mut after = 0;
+    let mut pairs = 0;
+    let mut wrong = fails(put_next(next, &mut after, &mut pairs) == 11);
+    wrong = plus(wrong, fails(after as usize == number));
     plus(wrong, fails(untouched(&out, 0)))
 }
 
@@ -115,44 +99,46 @@ fn at_end(sheet: &[u8], place: Place) -> usize {
 pub fn same_list(sheet: &[u8], n: usize, table: &[u8], rows: usize) -> usize {
     let mut seen = [0u8; 2048];
     let mut wrong = 0;
-    let mut place = Place::start();
-    for _row in 0..rows {
-        let next = step(sheet, n, place, table, rows, &mut seen);
-        place = next.place;
-        wrong = plus(wrong, next.wrong);
+    for row in 0..rows {
+        let more = same_reading(sheet, n, row, table, rows, &mut seen);
+        wrong = plus(wrong, more);
     }
-    plus(wrong, at_end(sheet, place))
+    plus(wrong, at_end(sheet, rows))
 }
 
 pub fn configured(sheet: &[u8], n: usize) -> usize {
     let mut out = [MARK; 256];
     let answer = configuration_in(sheet, &mut out, lent(n));
-    let mut wrong = fails(placed(answer) == 0);
+    let mut pairs = 0;
+    let mut wrong = fails(put_placed(answer, &mut pairs) == 0);
     wrong = plus(wrong, fails(untouched(&out, n)));
-    wrong = plus(wrong, fails(is_solved(sheet, &out)));
-    plus(wrong, fails(is_configuration(sheet, &out)))
+    let answers = checked(sheet, &out);
+    wrong = plus(wrong, fails(answers.solved));
+    plus(wrong, fails(answers.configuration))
 }
 
 // The check of a placing calls the configuration a reading just where the second solver lists it.
 pub fn same_verdict(sheet: &[u8], n: usize, table: &[u8], rows: usize) -> usize {
     let mut out = [MARK; 256];
-    let answer = configuration_in(sheet, &mut out, lent(n));
-    let wrong = fails(placed(answer) == 0);
+    configuration(sheet, &mut out);
     let listed = row_of(table, rows, &out, n) < rows;
-    plus(wrong, fails(is_reading(sheet, &out) == listed))
+    let answers = checked(sheet, &out);
+    fails(answers.reading == listed)
 }
 
 // With every root on top no dominance edge runs downward.
 pub fn all_top(sheet: &[u8], edges: usize) -> usize {
     let out = [255u8; 128];
-    fails(is_solved(sheet, &out) == (edges == 0))
+    let answers = checked(sheet, &out);
+    fails(answers.solved == (edges == 0))
 }
 
 fn drawn_as(sheet: &[u8], number: usize, answer: u8) -> usize {
     let mut out = [MARK; 1024];
-    let got = drawing(sheet, number, &mut out);
-    let wrong = fails(drawn(got) == answer);
-    plus(wrong, fails(untouched(&out, drawn_bytes(got))))
+    let drawn = drawing(sheet, number, &mut out);
+    let mut bytes = 0;
+    let wrong = fails(put_drawn(drawn, &mut bytes) == answer);
+    plus(wrong, fails(untouched(&out, bytes as usize)))
 }
 
 // Drawings: reading 1 has one, reading 0 and the reading after the last have none.

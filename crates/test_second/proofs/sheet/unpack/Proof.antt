@@ -2,8 +2,8 @@ use Prim.Native.Nat.{_-_}
 use mathlib.Core.Path.{_≡_}
 use lib.ListN.{length}
 use borrow.Author.Needs.{needs}
-use Rattle.test_calls.proofs.unpack.unpack.Statement.{statement}
-use Rattle.test_calls.proofs.unpack.unpack.Tie as tie
+use Rattle.test_second.proofs.sheet.unpack.Statement.{statement}
+use Rattle.test_second.proofs.sheet.unpack.Tie as tie
 
 abbrev Inv-loop : tie.InvT-loop
 Inv-loop sheet parent₀ leaves₀ roots₀ number₀ at₀ parent leaves roots number at = (length parent ≡ length parent₀) × (length leaves ≡ length leaves₀) × (length roots ≡ length roots₀)

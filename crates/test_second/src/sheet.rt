@@ -1,6 +1,8 @@
-// Well-formed sheets, taken apart for the second solver.
-use test_second::table::byte;
-use test_second::table::put;
+// A well-formed sheet, taken apart.
+use crate::build::NODES;
+use crate::table::byte;
+use crate::table::put;
+ghost use Prim.Native.Nat.{_≤_};
 
 // The longest sheet is shorter: 126 tree edges at most, 255 dominance edges.
 const SHEET: usize = 1200;
@@ -10,20 +12,13 @@ const TREE: usize = 2;
 // Where the first edge stands.
 const FIRST: usize = 2;
 
-// The first bytes of the table, which has so many.
-pub fn part(table: &[u8], bytes: usize) -> &[u8] {
-    if bytes <= table.len() {
-        &table[0..bytes]
-    } else {
-        table
-    }
+pub fn nodes_of(sheet: &[u8]) -> usize
+    ensures { λ r. ⌜ r ≤ 128 ⌝ }
+{
+    byte(sheet, 1) % (NODES + 1)
 }
 
-pub fn nodes_of(sheet: &[u8]) -> usize {
-    byte(sheet, 1)
-}
-
-// The tables that the second solver takes; the number of dominance edges.
+// Of each node its parent, and of each dominance edge its leaf and its root; the number of dominance edges.
 pub fn unpack(sheet: &[u8], parent: &mut [u8], leaves: &mut [u8], roots: &mut [u8]) -> usize {
     let mut number = 0;
     let mut at = FIRST;
