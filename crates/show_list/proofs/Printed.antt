@@ -1,32 +1,23 @@
 -- The pages of a whole run, put together, are the printed list.
-use Prim.Native.Nat.{ℕ, _+_, _≤_, min}
+use Prim.Native.Nat.{ℕ, min}
 use mathlib.Core.Path.{_≡_, sym, ap, subst, _∙_}
 use mathlib.Core.List.{List, _∷_, _++_, append-nil}
-use mathlib.Core.Bool.{true≢false}
+use mathlib.Core.Bool.{true, false, true≢false}
 use native.Mathlib.Omega.{arith}
-use lib.ListN.{length, take, drop}
-use lib.Seq.{sets-eq, take-at}
+use lib.ListN.{length, take}
 use Rattle.base_finite.specs.Stores.{joined}
 use Rattle.graph.specs.Graph.{Graph}
 use Rattle.graph.specs.Order.{limit, countAnswer}
 use Rattle.format.specs.Sheet.{Outcome, refused, accepted, outcome}
-use Rattle.format.specs.declared.Refusal.{Refusal}
-use Rattle.format.specs.declared.Refusal.the-variants.{NoReading}
-use Rattle.format.specs.Text.{refusedLine, countLine, printed, judged, PrintedList, refusal as refused-line, no-reading as none-printed, readings}
+use Rattle.format.specs.Text.{countLine, printed, judged, PrintedList, refusal as refused-line, no-reading as none-printed, readings}
 use Rattle.theory_list.specs.Readings.{listed}
 use Rattle.theory_list.proofs.Readings.{listing-exists}
+use Rattle.show_input.specs.Input.{Ready, ComesTo, refusal, no-reading, ready}
+use Rattle.show_input.specs.declared.Input.{Input}
+use Rattle.show_input.proofs.Comes.{shown-is}
 use Rattle.show_page.specs.Pages.{lines}
-use Rattle.show_list.specs.Run.{Shows, Underway, Refuses, FirstPage, refusal, no-reading, line-1, State, shownBy, Pages, ended, further, Run, run}
-use Rattle.show_list.specs.declared.Page.{Page}
+use Rattle.show_list.specs.Run.{Underway, Begins, State, shownBy, Pages, ended, further, Run, refusal as refusal-run, list as list-run}
 use Rattle.show_page.proofs.Texts.{lines-none, lines-join, printed-is}
-
--- what is handed to the system is the text
-shown-is : (text old : List ℕ) (r : Page) (new : List ℕ) → Shows text old r new → take (r .bytes) new ≡ text
-shown-is text old r new s =
-    let long : 0 + length text ≡ r .bytes = sym (s .written .after) in
-    let fits : 0 + length text ≤ length old = omega (arith, long, s .fits) in
-    ap (take (r .bytes)) (s .written .stored ∙ sets-eq text old 0 fits)
-    ∙ take-at text (drop (0 + length text) old) (r .bytes) (omega (arith, long))
 
 -- the pages from some number on are the lines from there on
 rest-printed : (g : Graph) (s : State) (texts : List (List ℕ)) → Underway g (s .page) (s .states) (s .trail) (s .held) → Pages s texts
@@ -39,17 +30,17 @@ rest-printed g s _ u (further t {texts} e call p) =
     ∙ ap (λ (ls : List ℕ). lines g (s .page .done) (t .page .done) ++ ls) (rest-printed g t texts (n .underway) p)
     ∙ lines-join g (s .page .done) (t .page .done) (min (length (listed g)) limit) (omega (arith, n .further)) (omega (arith, n .underway .to, n .underway .within)) (omega arith)
 
-alone : (s : State) (texts : List (List ℕ)) (why : Refusal) (old : List ℕ) → Refuses why old (s .page) (s .out) → Pages s texts → joined (shownBy s ∷ texts) ≡ refusedLine why
-unfolding joined
-alone s _ why old r (ended e) = append-nil (shownBy s) ∙ shown-is _ _ _ _ (r .shown)
-alone s _ why old r (further t e call p) = absurd (true≢false (sym e ∙ r .last))
+-- a refusal's line, of the sheet or of the sentence
+refused-printed : (o : Outcome) {old new : List ℕ} (r : Input) → ComesTo old r new o → r .refused ≡ true → PrintedList o (take (r .bytes) new)
+refused-printed (refused why) r (refusal f) e = subst (PrintedList (refused why)) (sym (shown-is _ _ _ _ (f .shown))) (refused-line why)
+refused-printed (accepted g) r (no-reading none f) e = subst (PrintedList (accepted g)) (sym (shown-is _ _ _ _ (f .shown))) (none-printed none)
+refused-printed (accepted g) r (ready b same) e = absurd (true≢false (sym e ∙ b .listed))
 
-pages-printed : (o : Outcome) (old : List ℕ) (s : State) (texts : List (List ℕ)) → FirstPage old (s .page) (s .states) (s .trail) (s .held) (s .out) o → Pages s texts
-    → PrintedList o (joined (shownBy s ∷ texts))
+-- line 1 and the lines
+list-printed : (g : Graph) {out : List ℕ} (s : State) (texts : List (List ℕ)) → Begins g out (s .page) (s .states) (s .trail) (s .held) (s .out) → Pages s texts
+    → PrintedList (accepted g) (joined (shownBy s ∷ texts))
 unfolding joined
-pages-printed (refused why) old s texts (refusal f) p = subst (PrintedList (refused why)) (sym (alone s texts why old f p)) (refused-line why)
-pages-printed (accepted g) old s texts (no-reading none f) p = subst (PrintedList (accepted g)) (sym (alone s texts NoReading old f p)) (none-printed none)
-pages-printed (accepted g) old s texts (line-1 b) p =
+list-printed g s texts b p =
     let all : joined (printed g (listed g)) ≡ joined (shownBy s ∷ texts) =
     printed-is g
     ∙ sym (ap (λ (ls : List ℕ). ls ++ joined texts) (shown-is _ _ _ _ (b .shown))
@@ -57,6 +48,16 @@ pages-printed (accepted g) old s texts (line-1 b) p =
     (rest-printed g s texts (b .underway) p ∙ ap (λ (k : ℕ). lines g k (min (length (listed g)) limit)) (b .start))) in
     subst (PrintedList (accepted g)) all (readings (listed g) (listing-exists g (b .underway .fits .shaped)) (b .some))
 
+pages-printed : (o : Outcome) {old new : List ℕ} (r : Input) → ComesTo old r new o → r .refused ≡ false
+    → {out : List ℕ} (s : State) (texts : List (List ℕ)) → ((g : Graph) → Ready g r → Begins g out (s .page) (s .states) (s .trail) (s .held) (s .out)) → Pages s texts
+    → PrintedList o (joined (shownBy s ∷ texts))
+pages-printed (refused why) r (refusal f) e s texts call p = absurd (true≢false (sym (f .alone) ∙ e))
+pages-printed (accepted g) r (no-reading none f) e s texts call p = absurd (true≢false (sym (f .alone) ∙ e))
+pages-printed (accepted g) r (ready b same) e s texts call p = list-printed g s texts (call g b) p
+
 -- "The printed list", of any input: a refusal's line, or line 1 and a line for each reading with a number
 pub run-printed : (input : List ℕ) (texts : List (List ℕ)) → Run input texts → PrintedList (outcome (judged input)) (joined texts)
-run-printed input _ (run old s f p) = pages-printed (outcome (judged input)) old s _ f p
+unfolding joined
+run-printed input _ (refusal-run {new = new} r f e) =
+    subst (PrintedList (outcome (judged input))) (sym (append-nil (take (r .bytes) new))) (refused-printed (outcome (judged input)) r f e)
+run-printed input _ (list-run r f e s call p) = pages-printed (outcome (judged input)) r f e s _ call p

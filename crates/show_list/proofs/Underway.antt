@@ -1,21 +1,19 @@
 -- A list that is printed page by page: how it begins, the placings at hand, and what a page leaves.
-use Prim.Native.Nat.{ℕ, _≤_, _<_, min}
+use Prim.Native.Nat.{ℕ, _≤_, _<_}
 use mathlib.Core.Path.{_≡_, refl, sym, ap, subst, _∙_}
 use mathlib.Core.List.{List, _++_}
-use mathlib.Core.Bool.{Bool, true, false, _||_, true≢false}
+use mathlib.Core.Bool.{Bool, true, _||_, true≢false}
 use mathlib.Core.Logic.{inl, inr, ⊎-elim}
 use native.Mathlib.Omega.{arith}
-use lib.Dec.{ltb, leb}
-use lib.ListN.{length, take, drop, length-take}
-use lib.Seq.{take-all, take-take}
-use borrow.Author.Tests.{ltb-true, ltb-false, leb-true, leb-false}
+use lib.Dec.{ltb}
+use lib.ListN.{length, drop}
+use borrow.Author.Tests.{ltb-true, ltb-false}
 use Rattle.base_finite.specs.Stores.{Written}
-use Rattle.base_finite.proofs.Laws.{by-bool, or-cases, or-none}
+use Rattle.base_finite.proofs.Laws.{or-cases, or-none}
 use Rattle.graph.specs.Graph.{Graph}
 use Rattle.graph.specs.Order.{limit, countAnswer}
 use Rattle.graph.specs.declared.Count.{Count}
-use Rattle.format.specs.Sheet.{Outcome, outcome}
-use Rattle.format.specs.Text.{countLine, judged}
+use Rattle.format.specs.Text.{countLine}
 use Rattle.theory_list.specs.Readings.{listed}
 use Rattle.solve_walk.specs.States.{Walkable}
 use Rattle.solve_start.specs.Started.{WalkableOf}
@@ -23,7 +21,7 @@ use Rattle.solve_stretch.specs.Stretch.{placings, Filled, Goes}
 use Rattle.base_tables.specs.declared.trees.Trees.{Trees}
 use Rattle.solve_stretch.specs.declared.Stop.{Stop}
 use Rattle.show_page.specs.Pages.{lines, Held}
-use Rattle.show_list.specs.Run.{Underway, Begins, FirstPage, refusal, no-reading, line-1}
+use Rattle.show_list.specs.Run.{Underway, Begins}
 use Rattle.show_list.specs.declared.Page.{Page}
 
 -- the placings at hand
@@ -115,33 +113,3 @@ paged {g} {p} u bytes k after before more is = record {
 -- from the number where they begin
 pub lines-from-there : (g : Graph) {from to : ℕ} → from ≡ to → (last : ℕ) {old new : List ℕ} {end : ℕ} → Written old 0 (lines g from last) new end → Written old 0 (lines g to last) new end
 lines-from-there g is last {old} {new} {end} w = subst (λ (k : ℕ). Written old 0 (lines g k last) new end) is w
-
--- the bytes judged: all that were read, or as many of them as count
-judged-is : (got : ℕ) (input : List ℕ) → take (min got 2048) input ≡ judged (take got input)
-judged-is got input =
-    by-bool (leb got 2048)
-    (λ (e : leb got 2048 ≡ true).
-    let all : min got 2048 ≡ got = omega (arith, leb-true got 2048 e) in
-    ap (λ (k : ℕ). take k input) all ∙ sym (take-all 2048 (take got input) (omega (arith, length-take got input, leb-true got 2048 e))))
-    (λ (e : leb got 2048 ≡ false).
-    let some : min got 2048 ≡ 2048 = omega (arith, leb-false got 2048 e) in
-    ap (λ (k : ℕ). take k input) some ∙ sym (take-take 2048 got input (omega (arith, leb-false got 2048 e))))
-
-pub of-input : (got end : ℕ) → end ≡ min got 2048 → (input : List ℕ) {o : Outcome} → outcome (take end input) ≡ o
-    → {old : List ℕ} {r : Page} {states trail held new : List ℕ} → FirstPage old r states trail held new o
-    → FirstPage old r states trail held new (outcome (judged (take got input)))
-of-input got end e input is {old} {r} {states} {trail} {held} {new} f =
-    subst (λ (o : Outcome). FirstPage old r states trail held new o) (sym is ∙ ap outcome (ap (λ (k : ℕ). take k input) e ∙ judged-is got input)) f
-
--- what a program may go on from
-
-pub first-fits : {old : List ℕ} {r : Page} {states trail held new : List ℕ} {o : Outcome} → FirstPage old r states trail held new o → r .bytes ≤ length old
-first-fits (refusal f) = f .shown .fits
-first-fits (no-reading none f) = f .shown .fits
-first-fits (line-1 b) = b .shown .fits
-
-pub first-underway : {old : List ℕ} {r : Page} {states trail held new : List ℕ} {o : Outcome} → FirstPage old r states trail held new o → r .more ≡ true
-    → (g : Graph) × Underway g r states trail held
-first-underway (refusal f) e = absurd (true≢false (sym e ∙ f .last))
-first-underway (no-reading none f) e = absurd (true≢false (sym e ∙ f .last))
-first-underway (line-1 {g} b) e = (g, b .underway)

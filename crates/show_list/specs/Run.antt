@@ -6,23 +6,16 @@ use mathlib.Core.Bool.{true, false}
 use mathlib.Core.Logic.{_⊎_}
 use lib.ListN.{length, take}
 use Rattle.graph.specs.Graph.{Graph}
-use Rattle.graph.specs.Placing.{Unsolvable}
 use Rattle.graph.specs.Order.{limit, countAnswer}
-use Rattle.format.specs.Sheet.{Outcome, refused, accepted, outcome}
-use Rattle.format.specs.declared.Refusal.{Refusal}
-use Rattle.format.specs.declared.Refusal.the-variants.{NoReading}
-use Rattle.format.specs.Text.{refusedLine, countLine, judged}
+use Rattle.format.specs.Sheet.{outcome}
+use Rattle.format.specs.Text.{countLine, judged}
 use Rattle.theory_list.specs.Readings.{listed}
-use Rattle.base_finite.specs.Stores.{Written}
 use Rattle.base_tables.specs.Trees.{Owners, Fits}
 use Rattle.solve_stretch.specs.Stretch.{placings, Goes}
 use Rattle.show_page.specs.Pages.{lines}
+use Rattle.show_input.specs.Input.{Shows, Ready, ComesTo}
+use Rattle.show_input.specs.declared.Input.{Input}
 use Rattle.show_list.specs.declared.Page.{Page}
-
--- the text is the page, and past it the lent bytes are as before
-pub record Shows (text old : List ℕ) (r : Page) (new : List ℕ) : Type 0 where
-  pub written : Written old 0 text new (r .bytes)
-  pub fits : r .bytes ≤ length old
 
 -- the list of g is printed up to the number `done`; the placings after the first `passed` are at hand, and the walk stands at the
 -- reading after them, if there is one
@@ -40,29 +33,18 @@ pub record Underway (g : Graph) (p : Page) (states trail held : List ℕ) : Type
   pub on : p .more ≡ true → (p .stop .more ≡ true) ⊎ (p .done < p .stop .last)
   pub ended : p .more ≡ false → p .done ≡ min (length (listed g)) limit
 
--- a refusal's line, and nothing follows
-pub record Refuses (why : Refusal) (old : List ℕ) (r : Page) (new : List ℕ) : Type 0 where
-  pub shown : Shows (refusedLine why) old r new
-  pub last : r .more ≡ false
-
 -- line 1 of the list
 pub record Begins (g : Graph) (old : List ℕ) (r : Page) (states trail held new : List ℕ) : Type 0 where
   pub some : 0 < length (listed g)
-  pub shown : Shows (countLine (countAnswer (length (listed g)))) old r new
+  pub shown : Shows (countLine (countAnswer (length (listed g)))) old (r .bytes) new
   pub more : r .more ≡ true
   pub start : r .done ≡ 0
   pub underway : Underway g r states trail held
 
--- the first page of a sheet, by what its bytes come to
-pub data FirstPage (old : List ℕ) (r : Page) (states trail held new : List ℕ) : Outcome → Type 0 where
-  refusal : {why : Refusal} → Refuses why old r new → FirstPage old r states trail held new (refused why)
-  no-reading : {g : Graph} → Unsolvable g → Refuses NoReading old r new → FirstPage old r states trail held new (accepted g)
-  line-1 : {g : Graph} → Begins g old r states trail held new → FirstPage old r states trail held new (accepted g)
-
 -- a further page of the list of g: one or more of the lines after those that are printed. Where it ends is left open: document 01 does
 -- not speak of pages.
 pub record NextPage (g : Graph) (p : Page) (old : List ℕ) (r : Page) (states trail held new : List ℕ) : Type 0 where
-  pub shown : Shows (lines g (p .done) (r .done)) old r new
+  pub shown : Shows (lines g (p .done) (r .done)) old (r .bytes) new
   pub further : p .done < r .done
   pub underway : Underway g r states trail held
 
@@ -85,7 +67,10 @@ pub data Pages : State → List (List ℕ) → Type 0 where
       → ((g : Graph) → Underway g (s .page) (s .states) (s .trail) (s .held) → NextPage g (s .page) (s .out) (t .page) (t .states) (t .trail) (t .held) (t .out))
       → Pages t texts → Pages s (shownBy t ∷ texts)
 
--- the pages of a run on this input: the first as `first_page` promises it, and those after it
+-- the pages of a run on this input: the line of a refusal, as `read_input` promises it, or the first page, as `first_page` promises
+-- it, and those after it
 pub data Run (input : List ℕ) : List (List ℕ) → Type 0 where
-  run : (old : List ℕ) (s : State) {texts : List (List ℕ)}
-      → FirstPage old (s .page) (s .states) (s .trail) (s .held) (s .out) (outcome (judged input)) → Pages s texts → Run input (shownBy s ∷ texts)
+  refusal : {old new : List ℕ} (r : Input) → ComesTo old r new (outcome (judged input)) → r .refused ≡ true → Run input (take (r .bytes) new ∷ [])
+  list : {old new : List ℕ} (r : Input) → ComesTo old r new (outcome (judged input)) → r .refused ≡ false
+      → {out : List ℕ} (s : State) {texts : List (List ℕ)} → ((g : Graph) → Ready g r → Begins g out (s .page) (s .states) (s .trail) (s .held) (s .out))
+      → Pages s texts → Run input (shownBy s ∷ texts)

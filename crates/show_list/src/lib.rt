@@ -1,18 +1,12 @@
-// The pages of a run: the first has the refusal's line or the count's, each further one lines of readings. What decides stands
-// here, so that a program only reads, calls and writes.
-use base_nodeset::NodeSet;
+// The pages of a list: the first has line 1, each further one lines of readings. What decides stands here and in `show_input`, so
+// that a program only reads, calls and writes.
 use base_tables::trees::Trees;
 use base_text::count_line;
-use base_text::refused_line;
-use format::Refusal;
 use graph::Count;
 use graph::LAST;
-use sheet_decode::judge::Verdict;
-use sheet_decode::read::Graph;
-use sheet_decode::read::read;
+use show_input::Input;
 use show_page::fill_page;
 use solve_numbered::count;
-use solve_start::begin;
 use solve_stretch::Stop;
 use solve_stretch::fill;
 use solve_walk::steps::first;
@@ -20,19 +14,14 @@ ghost use mathlib.Core.Path.{_≡_};
 ghost use mathlib.Core.Bool.{true, false, _||_};
 ghost use lib.Dec.{ltb};
 ghost use Prim.Native.Nat.{_≤_, _<_, min};
-ghost use lib.ListN.{length, take};
+ghost use lib.ListN.{length};
 ghost use Rattle.graph.specs.Graph as graph;
 ghost use Rattle.graph.specs.Order.{limit, countAnswer};
-ghost use Rattle.format.specs.Sheet.{outcome, accepted};
-ghost use Rattle.format.specs.Text.{judged};
 ghost use Rattle.theory_list.specs.Readings.{listed};
-ghost use Rattle.base_tables.specs.Tables.{SheetTables};
 ghost use Rattle.solve_walk.specs.States.{Walkable};
 ghost use Rattle.solve_stretch.specs.Stretch.{Filled, Goes};
-ghost use Rattle.show_list.specs.Run.{Underway, Refuses, FirstPage, NextPage};
-
-// So much of the input counts.
-pub const INPUT: usize = 2048;
+ghost use Rattle.show_input.specs.Input.{Ready};
+ghost use Rattle.show_list.specs.Run.{Underway, Begins, NextPage};
 
 // A page, and what the next one goes on from.
 pub struct Page {
@@ -46,36 +35,6 @@ pub struct Page {
     pub stop: Stop,
     pub trees: Trees,
     pub owner: [u8; 128],
-}
-
-// A refusal is one line, and nothing follows.
-fn refuse(why: Refusal, out: &mut [u8]) -> Page
-    requires { ⌜ 40 ≤ length (now out) ⌝ }
-    ensures { λ r. ⌜ Refuses why (now (out .entry)) r (now (out .exit)) ⌝ }
-{
-    let bytes = refused_line(why, out, 0);
-    let stop = Stop {
-        last: 0,
-        more: false,
-        depth: 0,
-        open: 0,
-        kept: 0,
-    };
-    let trees = Trees {
-        n: 0,
-        leaves: NodeSet::empty(),
-        roots: NodeSet::empty(),
-    };
-    let owner = [0u8; 128];
-    Page {
-        bytes,
-        more: false,
-        done: 0,
-        passed: 0,
-        stop,
-        trees,
-        owner,
-    }
 }
 
 // The count. Where no more follow it is the last number, unless that is the last number there is. Else a walk of its own counts.
@@ -124,31 +83,24 @@ fn walk(
     fill(owner, trees, states, trail, outset, placings)
 }
 
-// Line 1 of a well-formed sheet's list, or that it has no reading.
-fn begin_list(
-    graph: Graph,
+// The first page: line 1.
+pub fn first_page(
+    input: Input,
     states: &mut [u64],
     trail: &mut [u8],
     placings: &mut [u8],
     out: &mut [u8],
 ) -> Page
-    requires { ⌜ SheetTables (graph .n) (graph .parent) (graph .low) (graph .high) ⌝ }
+    requires { ⌜ ((g : graph.Graph) × Ready g input) ⌝ }
     requires { ⌜ (8772 ≤ length (now states)) × (32768 ≤ length (now trail)) × (128 ≤ length (now placings)) × (1100 ≤ length (now out)) ⌝ }
     ensures { λ r. ⌜
-        ((s : SheetTables (graph .n) (graph .parent) (graph .low) (graph .high)) →
-        FirstPage (now (out .entry)) r (now (states .exit)) (now (trail .exit)) (now (placings .exit)) (now (out .exit)) (accepted (s .graph)))
+        ((g : graph.Graph) → Ready g input →
+        Begins g (now (out .entry)) r (now (states .exit)) (now (trail .exit)) (now (placings .exit)) (now (out .exit)))
         ⌝ }
 {
-    let parent = graph.parent;
-    let low = graph.low;
-    let high = graph.high;
-    let mut owner = [0u8; 128];
-    let mut rows = [0u64; 256];
-    let begun = begin(&parent, &low, &high, graph.n, &mut owner, &mut rows);
-    if !begun.solvable {
-        return refuse(Refusal::NoReading, out);
-    }
-    let trees = begun.trees;
+    let rows = input.rows;
+    let owner = input.owner;
+    let trees = input.trees;
     let stop = walk(&rows, &owner, trees, states, trail, placings);
     let readings = total(&rows, &owner, trees, stop.last, stop.more);
     let bytes = count_line(readings, out, 0);
@@ -160,40 +112,6 @@ fn begin_list(
         stop,
         trees,
         owner,
-    }
-}
-
-// How many bytes are judged.
-fn counts(got: usize) -> usize
-    ensures { λ r. ⌜ r ≡ min got 2048 ⌝ }
-{
-    if got < INPUT { got } else { INPUT }
-}
-
-// The first page, of the first `got` bytes of the input. The place lent for it is as long as what counts, so that nothing of
-// that is left unread.
-pub fn first_page(
-    input: &[u8],
-    got: usize,
-    states: &mut [u64],
-    trail: &mut [u8],
-    placings: &mut [u8],
-    out: &mut [u8],
-) -> Page
-    requires { ⌜ (2048 ≤ length (now input)) × (got ≤ length (now input)) ⌝ }
-    requires { ⌜ (8772 ≤ length (now states)) × (32768 ≤ length (now trail)) × (128 ≤ length (now placings)) × (1100 ≤ length (now out)) ⌝ }
-    ensures { λ r. ⌜
-        FirstPage (now (out .entry)) r (now (states .exit)) (now (trail .exit)) (now (placings .exit)) (now (out .exit))
-        (outcome (judged (take got (now (input .entry)))))
-        ⌝ }
-{
-    let end = counts(got);
-    let answer = read(&input[..end]);
-    let verdict = answer.verdict;
-    let graph = answer.graph;
-    match verdict {
-        Verdict::Refused(why) => refuse(why, out),
-        Verdict::Accepted => begin_list(graph, states, trail, placings, out),
     }
 }
 

@@ -1,133 +1,57 @@
--- Between two pages the list is underway, as long as another follows.
-use Prim.Native.Nat.{_-_}
-use mathlib.Core.Path.{_≡_, sym}
-use mathlib.Core.Bool.{true}
+-- A refusal's line fits into the place for it; else the tables are those of a list.
+use mathlib.Core.Path.{sym}
 use native.Mathlib.Omega.{arith}
-use lib.ListN.{length}
 use lib.Seq.{length-take-le}
-use Rattle.graph.specs.Graph.{Graph}
-use Rattle.graph.specs.Order.{limit}
-use Rattle.show_list.specs.Run.{Underway}
-use Rattle.show_list.proofs.Underway.{first-fits, first-underway}
+use Rattle.show_input.proofs.Comes.{refusal-fits, ready-of}
 use borrow.Author.Needs.{needs}
 use Rattle.readings.proofs.main.Statement.{statement}
 use Rattle.readings.proofs.main.Tie as tie
 
-abbrev Inv-loop : tie.InvT-loop
-Inv-loop got states₀ trail₀ placings₀ out₀ page₀ first states trail placings out page =
-    (length states ≡ 8772)
-    × (length trail ≡ 32768)
-    × (length placings ≡ 262144)
-    × (length out ≡ 65536)
-    × (page .more ≡ true → (g : Graph) × Underway g page states trail placings)
-
-abbrev μ-loop : tie.MeasureT-loop
-μ-loop got states₀ trail₀ placings₀ out₀ page₀ first states trail placings out page = limit - page .done
-
-slice-aggregate-read-full : tie.Need-slice-aggregate-read-full Inv-loop μ-loop
+slice-aggregate-read-full : tie.Need-slice-aggregate-read-full
 slice-aggregate-read-full c = search needs
 
-read-full-requires : tie.Need-read-full-requires Inv-loop μ-loop
+read-full-requires : tie.Need-read-full-requires
 read-full-requires c κs = search needs
 
-slice-aggregate-first-page : tie.Need-slice-aggregate-first-page Inv-loop μ-loop
-slice-aggregate-first-page c = search needs
+slice-aggregate-read-input : tie.Need-slice-aggregate-read-input
+slice-aggregate-read-input c = search needs
 
-slice-aggregate-first-page-2 : tie.Need-slice-aggregate-first-page-2 Inv-loop μ-loop
-slice-aggregate-first-page-2 c = search needs
+slice-aggregate-read-input-2 : tie.Need-slice-aggregate-read-input-2
+slice-aggregate-read-input-2 c = search needs
 
-slice-aggregate-first-page-3 : tie.Need-slice-aggregate-first-page-3 Inv-loop μ-loop
-slice-aggregate-first-page-3 c = search needs
+read-input-requires : tie.Need-read-input-requires
+read-input-requires c κs = search needs
 
-slice-aggregate-first-page-4 : tie.Need-slice-aggregate-first-page-4 Inv-loop μ-loop
-slice-aggregate-first-page-4 c = search needs
+array-share-prefix-line : tie.Need-array-share-prefix-line
+array-share-prefix-line c = omega (arith, refusal-fits (c .before .before .read-input .ensures) (c .if1 .taken), c .before .before .read-input .kept)
 
-slice-aggregate-first-page-5 : tie.Need-slice-aggregate-first-page-5 Inv-loop μ-loop
-slice-aggregate-first-page-5 c = search needs
+slice-aggregate-write-all : tie.Need-slice-aggregate-write-all
+slice-aggregate-write-all c = sym (length-take-le _ _ (array-share-prefix-line (c .before)))
 
-first-page-requires : tie.Need-first-page-requires Inv-loop μ-loop
-first-page-requires c κs = ((search needs, c .before .before .before .before .before .before .read-full .ensures .0), (search needs, search needs, search needs, search needs))
-
-array-share-prefix-out : tie.Need-array-share-prefix-out Inv-loop μ-loop
-array-share-prefix-out c = omega (arith, first-fits (c .before .before .before .before .first-page .ensures), c .before .before .before .before .first-page .kept)
-
-slice-aggregate-write-all : tie.Need-slice-aggregate-write-all Inv-loop μ-loop
-slice-aggregate-write-all c = sym (length-take-le _ _ (array-share-prefix-out (c .before)))
-
-write-all-requires : tie.Need-write-all-requires Inv-loop μ-loop
+write-all-requires : tie.Need-write-all-requires
 write-all-requires c κs = search needs
 
-loop-holds : tie.Need-loop-holds Inv-loop μ-loop
-loop-holds c = (search needs, search needs, search needs, search needs, first-underway (c .before .before .before .before .before .before .first-page .ensures))
+list-requires : tie.Need-list-requires
+list-requires c κs = ready-of (c .before .before .read-input .ensures) (c .if1 .left)
 
-slice-aggregate-next-page : tie.Need-slice-aggregate-next-page Inv-loop μ-loop
-slice-aggregate-next-page c = search needs
-
-slice-aggregate-next-page-2 : tie.Need-slice-aggregate-next-page-2 Inv-loop μ-loop
-slice-aggregate-next-page-2 c = search needs
-
-slice-aggregate-next-page-3 : tie.Need-slice-aggregate-next-page-3 Inv-loop μ-loop
-slice-aggregate-next-page-3 c = search needs
-
-slice-aggregate-next-page-4 : tie.Need-slice-aggregate-next-page-4 Inv-loop μ-loop
-slice-aggregate-next-page-4 c = search needs
-
-next-page-requires : tie.Need-next-page-requires Inv-loop μ-loop
-next-page-requires c κs = (c .before .before .before .before .before .loop .inv .4 (c .before .before .before .before .loop-test .taken), (c .before .before .before .before .loop-test .taken, omega (arith, c .before .before .before .before .before .loop .inv .1), omega (arith, c .before .before .before .before .before .loop .inv .2), omega (arith, c .before .before .before .before .before .loop .inv .3)))
-
-array-share-prefix-out-2 : tie.Need-array-share-prefix-out-2 Inv-loop μ-loop
-array-share-prefix-out-2 c =
-    let u = c .before .before .before .before .before .before .before .before .before .before .loop .inv .4 (c .before .before .before .before .before .before .before .before .before .loop-test .taken) in
-    let x = c .before .before .before .before .next-page .ensures (u .0) (u .1) in
-    omega (arith, x .shown .fits, c .before .before .before .before .before .before .before .before .before .before .loop .inv .3, c .before .before .before .before .next-page .kept)
-
-slice-aggregate-write-all-2 : tie.Need-slice-aggregate-write-all-2 Inv-loop μ-loop
-slice-aggregate-write-all-2 c = sym (length-take-le _ _ (array-share-prefix-out-2 (c .before)))
-
-write-all-requires-2 : tie.Need-write-all-requires-2 Inv-loop μ-loop
-write-all-requires-2 c κs = search needs
-
-loop-less : tie.Need-loop-less Inv-loop μ-loop
-loop-less c =
-    let u = c .before .before .before .before .before .before .before .before .before .before .before .before .loop .inv .4 (c .before .before .before .before .before .before .before .before .before .before .before .loop-test .taken) in
-    let x = c .before .before .before .before .before .before .next-page .ensures (u .0) (u .1) in
-    omega (arith, x .further, x .underway .to, x .underway .within)
-
-loop-again : tie.Need-loop-again Inv-loop μ-loop
-loop-again c =
-    let u = c .before .before .before .before .before .before .before .before .before .before .before .before .loop .inv .4 (c .before .before .before .before .before .before .before .before .before .before .before .loop-test .taken) in
-    let x = c .before .before .before .before .before .before .next-page .ensures (u .0) (u .1) in
-    (search needs, search needs, search needs, search needs, λ e. (u .0, x .underway))
-
-returns : tie.Need-returns Inv-loop μ-loop
+returns : tie.Need-returns
 returns c = search needs
+
+returns-2 : tie.Need-returns-2
+returns-2 c = search needs
 
 pub main-spec : {M : Type 1} → statement M
 main-spec =
     tie.close
     (tie.spec
-    Inv-loop
-    μ-loop
     slice-aggregate-read-full
     read-full-requires
-    slice-aggregate-first-page
-    slice-aggregate-first-page-2
-    slice-aggregate-first-page-3
-    slice-aggregate-first-page-4
-    slice-aggregate-first-page-5
-    first-page-requires
-    array-share-prefix-out
+    slice-aggregate-read-input
+    slice-aggregate-read-input-2
+    read-input-requires
+    array-share-prefix-line
     slice-aggregate-write-all
     write-all-requires
-    loop-holds
-    slice-aggregate-next-page
-    slice-aggregate-next-page-2
-    slice-aggregate-next-page-3
-    slice-aggregate-next-page-4
-    next-page-requires
-    array-share-prefix-out-2
-    slice-aggregate-write-all-2
-    write-all-requires-2
-    loop-less
-    loop-again
-    returns)
+    list-requires
+    returns
+    returns-2)

@@ -1,45 +1,34 @@
--- The bytes that count are read; the sheet's refusal, or the first page of its tables.
-use mathlib.Core.Path.{sym}
+-- The first placings are at hand, and how many readings there are.
 use native.Mathlib.Omega.{arith}
-use denote.Ref.{now}
-use lib.ListN.{take}
-use lib.Seq.{length-take-le}
-use Rattle.sheet_decode.proofs.Answers.{answered-refused}
-use Rattle.solve_start.proofs.Accepted.{sheet-of}
-use Rattle.show_list.specs.Run.{refusal}
-use Rattle.show_list.proofs.Underway.{of-input}
+use Rattle.base_text.proofs.Lines.{count-short}
+use Rattle.show_list.proofs.Underway.{begins}
 use borrow.Author.Needs.{needs}
 use Rattle.show_list.proofs.first_page.Statement.{statement}
 use Rattle.show_list.proofs.first_page.Tie as tie
 
-counts-requires : tie.Need-counts-requires
-counts-requires c κs = search needs
+slice-aggregate-walk : tie.Need-slice-aggregate-walk
+slice-aggregate-walk c = search needs
 
-slice-aggregate-read : tie.Need-slice-aggregate-read
-slice-aggregate-read c = sym (length-take-le _ _ (omega (arith, c .before .counts .ensures, c .before .before .before .before .before .before .before .pre .0)))
+slice-aggregate-walk-2 : tie.Need-slice-aggregate-walk-2
+slice-aggregate-walk-2 c = search needs
 
-read-requires : tie.Need-read-requires
-read-requires c κs = search needs
+walk-requires : tie.Need-walk-requires
+walk-requires c κs = search needs
 
-enum-known-verdict : tie.Need-enum-known-verdict
-enum-known-verdict c = search needs
+slice-aggregate-total : tie.Need-slice-aggregate-total
+slice-aggregate-total c = search needs
 
-refuse-requires : tie.Need-refuse-requires
-refuse-requires c κs = omega (arith, c .before .before .before .before .before .before .before .before .before .before .before .before .before .pre .1 .3)
+slice-aggregate-total-2 : tie.Need-slice-aggregate-total-2
+slice-aggregate-total-2 c = search needs
 
-enum-told : tie.Need-enum-told
-enum-told c = search needs
+total-requires : tie.Need-total-requires
+total-requires c κs = (c .before .before .before .before .before .before .before .before .before .before .before .before .before .before .before .before .before .before .before .before .before .pre .0 .1 .walkable .sheet, λ x. c .before .before .before .before .before .before .before .before .walk .ensures .1 x .1 .ended)
 
-begin-list-requires : tie.Need-begin-list-requires
-begin-list-requires c κs = (sheet-of (take (c .before .before .before .before .before .before .before .before .before .counts .result) (now (c .before .before .before .before .before .before .before .before .before .before .before .before .before .before .before .args .input))) (c .before .before .before .before .before .before .before .read .result) (c .before .before .before .before .before .before .before .read .ensures) (c .before .before .before .before .enum-told .given .1) .tables, c .before .before .before .before .before .before .before .before .before .before .before .before .before .before .before .pre .1)
+count-line-requires : tie.Need-count-line-requires
+count-line-requires c κs = omega (arith, count-short (c .before .total .result), c .before .before .before .before .before .before .before .before .before .before .before .before .before .before .before .before .before .before .before .before .before .before .before .pre .1 .3)
 
 same-length : tie.Need-same-length
 same-length c = search needs
-
-returns : tie.Need-returns
-returns c =
-    of-input (c .before .before .before .before .before .before .before .before .before .before .before .before .before .before .before .before .args .got) (c .before .before .before .before .before .before .before .before .before .before .counts .result) (c .before .before .before .before .before .before .before .before .before .before .counts .ensures) (now (c .before .before .before .before .before .before .before .before .before .before .before .before .before .before .before .before .args .input))
-    (answered-refused (take (c .before .before .before .before .before .before .before .before .before .before .counts .result) (now (c .before .before .before .before .before .before .before .before .before .before .before .before .before .before .before .before .args .input))) (c .before .before .before .before .before .before .before .before .read .result) _ (c .before .before .before .before .before .before .before .before .read .ensures) (c .before .before .before .before .before .verdict .given .1)) (refusal (c .before .before .refuse .ensures))
 
 same-length-2 : tie.Need-same-length-2
 same-length-2 c = search needs
@@ -50,29 +39,25 @@ same-length-3 c = search needs
 same-length-4 : tie.Need-same-length-4
 same-length-4 c = search needs
 
-same-length-5 : tie.Need-same-length-5
-same-length-5 c = search needs
-
-returns-2 : tie.Need-returns-2
-returns-2 c =
-    let x = sheet-of (take (c .before .before .before .before .before .before .before .before .before .before .before .before .before .before .before .before .before .before .counts .result) (now (c .before .before .before .before .before .before .before .before .before .before .before .before .before .before .before .before .before .before .before .before .before .before .before .before .args .input))) (c .before .before .before .before .before .before .before .before .before .before .before .before .before .before .before .before .read .result) (c .before .before .before .before .before .before .before .before .before .before .before .before .before .before .before .before .read .ensures) (c .before .before .before .before .before .before .before .before .before .before .before .before .before .enum-told .given .1) in
-    of-input (c .before .before .before .before .before .before .before .before .before .before .before .before .before .before .before .before .before .before .before .before .before .before .before .before .args .got) (c .before .before .before .before .before .before .before .before .before .before .before .before .before .before .before .before .before .before .counts .result) (c .before .before .before .before .before .before .before .before .before .before .before .before .before .before .before .before .before .before .counts .ensures) (now (c .before .before .before .before .before .before .before .before .before .before .before .before .before .before .before .before .before .before .before .before .before .before .before .before .args .input)) (x .is) (c .before .before .before .before .before .before .before .before .begin-list .ensures (x .tables))
+returns : tie.Need-returns
+returns c =
+    λ g x.
+    begins (x .walkable) (x .long) _ (c .before .before .before .before .before .before .before .before .before .before .before .before .before .walk .ensures .0) (c .before .before .before .before .before .before .before .before .before .before .before .before .before .walk .ensures .1) _ (c .before .before .before .before .total .ensures) (c .before .before .count-line .ensures)
+    (omega (arith, count-short (c .before .before .before .before .total .result), c .before .before .before .before .before .before .before .before .before .before .before .before .before .before .before .before .before .before .before .before .before .before .before .before .before .before .pre .1 .3, c .before .before .count-line .ensures .after))
 
 pub first-page-spec : {M : Type 1} → statement M
 first-page-spec =
     tie.close
     (tie.spec
-    counts-requires
-    slice-aggregate-read
-    read-requires
-    enum-known-verdict
-    refuse-requires
-    enum-told
-    begin-list-requires
+    slice-aggregate-walk
+    slice-aggregate-walk-2
+    walk-requires
+    slice-aggregate-total
+    slice-aggregate-total-2
+    total-requires
+    count-line-requires
     same-length
-    returns
     same-length-2
     same-length-3
     same-length-4
-    same-length-5
-    returns-2)
+    returns)

@@ -1,7 +1,7 @@
 -- The smaller of the two.
 use native.Mathlib.Omega.{arith}
-use Rattle.show_list.proofs.counts.Statement.{statement}
-use Rattle.show_list.proofs.counts.Tie as tie
+use Rattle.show_input.proofs.counts.Statement.{statement}
+use Rattle.show_input.proofs.counts.Tie as tie
 
 returns : tie.Need-returns
 returns c = omega (arith, c .if1 .taken)

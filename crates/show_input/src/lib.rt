@@ -1,0 +1,102 @@
+// What the input of a run comes to: a refusal's line, or what the list of its readings begins from.
+use base_nodeset::NodeSet;
+use base_tables::trees::Trees;
+use base_text::refused_line;
+use format::Refusal;
+use sheet_decode::judge::Verdict;
+use sheet_decode::read::Graph;
+use sheet_decode::read::read;
+use solve_start::begin;
+ghost use mathlib.Core.Path.{_≡_};
+ghost use Prim.Native.Nat.{_≤_, min};
+ghost use lib.ListN.{length, take};
+ghost use Rattle.format.specs.Sheet.{outcome, accepted};
+ghost use Rattle.format.specs.Text.{judged};
+ghost use Rattle.base_tables.specs.Tables.{SheetTables};
+ghost use Rattle.show_input.specs.Input.{Refuses, ComesTo};
+
+// So much of the input counts.
+pub const LONGEST: usize = 2048;
+
+// Room for a refusal's line.
+pub const REFUSAL: usize = 40;
+
+// The line of a refusal has so many bytes. Where there is none, a walk through the readings starts from the tables.
+pub struct Input {
+    pub refused: bool,
+    pub bytes: usize,
+    pub trees: Trees,
+    pub owner: [u8; 128],
+    pub rows: [u64; 256],
+}
+
+// A refusal is one line.
+fn refuse(why: Refusal, out: &mut [u8]) -> Input
+    requires { ⌜ 40 ≤ length (now out) ⌝ }
+    ensures { λ r. ⌜ Refuses why (now (out .entry)) r (now (out .exit)) ⌝ }
+{
+    let bytes = refused_line(why, out, 0);
+    let trees = Trees {
+        n: 0,
+        leaves: NodeSet::empty(),
+        roots: NodeSet::empty(),
+    };
+    let owner = [0u8; 128];
+    let rows = [0u64; 256];
+    Input {
+        refused: true,
+        bytes,
+        trees,
+        owner,
+        rows,
+    }
+}
+
+// What a well-formed sheet's list begins from, or that it has no reading.
+fn prepare(graph: Graph, out: &mut [u8]) -> Input
+    requires { ⌜ SheetTables (graph .n) (graph .parent) (graph .low) (graph .high) × (40 ≤ length (now out)) ⌝ }
+    ensures { λ r. ⌜
+        ((s : SheetTables (graph .n) (graph .parent) (graph .low) (graph .high)) →
+        ComesTo (now (out .entry)) r (now (out .exit)) (accepted (s .graph)))
+        ⌝ }
+{
+    let parent = graph.parent;
+    let low = graph.low;
+    let high = graph.high;
+    let mut owner = [0u8; 128];
+    let mut rows = [0u64; 256];
+    let begun = begin(&parent, &low, &high, graph.n, &mut owner, &mut rows);
+    if !begun.solvable {
+        return refuse(Refusal::NoReading, out);
+    }
+    let trees = begun.trees;
+    Input {
+        refused: false,
+        bytes: 0,
+        trees,
+        owner,
+        rows,
+    }
+}
+
+// How many bytes are judged.
+fn counts(got: usize) -> usize
+    ensures { λ r. ⌜ r ≡ min got 2048 ⌝ }
+{
+    if got < LONGEST { got } else { LONGEST }
+}
+
+// Of the first `got` bytes of the input. The place lent for it is as long as what counts, so that nothing of that is left unread.
+pub fn read_input(input: &[u8], got: usize, out: &mut [u8]) -> Input
+    requires { ⌜ (2048 ≤ length (now input)) × (got ≤ length (now input)) × (40 ≤ length (now out)) ⌝ }
+    ensures { λ r. ⌜ ComesTo (now (out .entry)) r (now (out .exit)) (outcome (judged (take got (now (input .entry))))) ⌝ }
+{
+    let end = counts(got);
+    let answer = read(&input[..end]);
+    let verdict = answer.verdict;
+    let graph = answer.graph;
+    match verdict {
+        Verdict::Refused(why) => refuse(why, out),
+        Verdict::Accepted => prepare(graph, out),
+    }
+}
