@@ -13,6 +13,7 @@ use sheet_encode::Tidied;
 use sheet_fragments::Table;
 ghost use mathlib.Core.Path.{_≡_};
 ghost use mathlib.Core.Bool.{cond};
+ghost use Prim.Native.Nat.{_≤_};
 ghost use Rattle.solve_answer.specs.Calls.{countNumber, placedNumber, drawnNumber, placingNumber};
 ghost use Rattle.counter.specs.Checks.{cycleNumber, tidiedNumber, tableNumber};
 ghost use Rattle.capi_put.specs.Values.{countValue, bits, readingsOf, pairsOf, drawnOf, tidiedOf, recordsOf, yesOf, answersOf};
@@ -38,6 +39,7 @@ fn value(count: Count) -> u64
 
 fn bit(yes: bool, value: u8) -> u8
     ensures { λ r. ⌜ r ≡ cond yes value 0 ⌝ }
+    ensures { λ r. ⌜ r ≤ value ⌝ }
 {
     if yes { value } else { 0 }
 }

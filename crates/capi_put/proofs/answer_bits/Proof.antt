@@ -1,7 +1,6 @@
 -- The three bits add up to 7 at most.
 use borrow.Author.Needs.{needs}
 use native.Mathlib.Omega.{arith}
-use Rattle.capi_put.proofs.Bits.{bit-le}
 use Rattle.capi_put.proofs.answer_bits.Statement.{statement}
 use Rattle.capi_put.proofs.answer_bits.Tie as tie
 
@@ -12,19 +11,13 @@ bit-requires-2 : tie.Need-bit-requires-2
 bit-requires-2 c κs = search needs
 
 add-result : tie.Need-add-result
-add-result c =
-    let a = c .before .before .args .a in
-    record { fits = omega (arith, c .before .bit .ensures, c .bit2 .ensures, bit-le (a .solved) 1, bit-le (a .configuration) 2) }
+add-result c = record { fits = omega (arith, c .before .bit .ensures .1, c .bit2 .ensures .1) }
 
 bit-requires-3 : tie.Need-bit-requires-3
 bit-requires-3 c κs = search needs
 
 add-result-2 : tie.Need-add-result-2
-add-result-2 c =
-    let a = c .before .before .before .args .a in
-    record {
-      fits = omega (arith, c .before .before .bit .ensures, c .before .bit2 .ensures, c .bit3 .ensures, bit-le (a .solved) 1, bit-le (a .configuration) 2, bit-le (a .reading) 4);
-    }
+add-result-2 c = record { fits = omega (arith, c .before .before .bit .ensures .1, c .before .bit2 .ensures .1, c .bit3 .ensures .1) }
 
 returns : tie.Need-returns
 returns c = search needs

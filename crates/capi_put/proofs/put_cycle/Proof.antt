@@ -17,7 +17,7 @@ number-requires : tie.Need-number-requires
 number-requires c κs = search needs
 
 returns : tie.Need-returns
-returns c = rw (c .before .before .answer .given .1) (refl, c .bit .ensures)
+returns c = rw (c .before .before .answer .given .1) (refl, c .bit .ensures .0)
 
 returns-2 : tie.Need-returns-2
 returns-2 c = search needs
