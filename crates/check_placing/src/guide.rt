@@ -3,9 +3,9 @@
 use base_tables::sets::in_row;
 use base_tables::trees::Trees;
 use base_tables::trees::owners;
+use solve_below::below;
+use solve_below::fragments;
 use solve_closure::graph_rows;
-use solve_reduce::below::below;
-use solve_reduce::below::fragments;
 use solve_reduce::choose::Fork;
 use solve_reduce::choose::choose;
 use solve_reduce::reduced::WIDE;
@@ -27,7 +27,7 @@ ghost use Rattle.base_tables.specs.Trees.{Parents, Bounded, TreesOf, Owners, Fi
 ghost use Rattle.base_tables.specs.Rows.{Long as Paired};
 ghost use Rattle.base_tables.specs.Sets.{Long, Rows};
 ghost use Rattle.base_tables.specs.Tables.{Tables};
-ghost use Rattle.solve_reduce.specs.Below.{Fragments};
+ghost use Rattle.solve_below.specs.Below.{Fragments};
 ghost use Rattle.solve_reduce.specs.Reduced.{Wide, LooplessForm};
 ghost use Rattle.check_placing.specs.Guide.{Owned, Within, HalfOf, Standing, Arrived};
 

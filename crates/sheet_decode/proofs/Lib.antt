@@ -1,7 +1,3 @@
-pub mod Steps
-pub mod Turns
-pub mod Runs
 pub mod Judges
 pub mod Whole
 pub mod Answers
-pub mod Again

@@ -13,14 +13,14 @@ use Rattle.graph.specs.Graph.{Edge, among, single, parent}
 use Rattle.format.specs.Sheet.{Outcome, whole, outcome}
 use Rattle.format.specs.declared.Refusal.{Refusal}
 use Rattle.sheet_decode.proofs.Judges.{graphOf}
-use Rattle.sheet_decode.proofs.turn.Run.{the-type}
+use Rattle.sheet_commands.proofs.turn.Run.{the-type}
 use Rattle.base_tables.specs.Tables.{Holds}
-use Rattle.sheet_decode.specs.Turn.{Reached}
-use Rattle.sheet_decode.specs.Run.{Ran}
+use Rattle.sheet_commands.specs.Turn.{Reached}
+use Rattle.sheet_commands.specs.Run.{Blank, Ran}
 use Rattle.sheet_decode.specs.Judge.{Judged}
-use Rattle.sheet_decode.specs.Read.{Blank, stopOf, unacceptedOf, Decodes, Reads}
-use Rattle.sheet_decode.specs.declared.turn.Run.{Run}
-use Rattle.sheet_decode.specs.declared.turn.Run.the-variants.{Going, Ended, Refused as RunRefused}
+use Rattle.sheet_decode.specs.Read.{stopOf, unacceptedOf, Decodes, Reads}
+use Rattle.sheet_commands.specs.declared.turn.Run.{Run}
+use Rattle.sheet_commands.specs.declared.turn.Run.the-variants.{Going, Ended, Refused as RunRefused}
 use Rattle.sheet_decode.specs.declared.judge.Verdict.{Verdict}
 use Rattle.sheet_decode.specs.declared.judge.Verdict.the-variants.{Accepted, Refused as VerdictRefused}
 use Rattle.sheet_decode.specs.declared.read.Answer.{Answer}

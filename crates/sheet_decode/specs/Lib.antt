@@ -1,6 +1,2 @@
-pub mod Step
-pub mod Reader
-pub mod Turn
-pub mod Run
 pub mod Judge
 pub mod Read

@@ -1,22 +1,18 @@
 -- A whole sheet, decoded.
 use Prim.Native.Nat.{ℕ}
 use mathlib.Core.Path.{_≡_}
-use mathlib.Core.List.{List, []}
+use mathlib.Core.List.{List}
 use Rattle.graph.specs.Graph as spec
 use Rattle.format.specs.Sheet.{Outcome, refused, accepted, outcome}
 use Rattle.base_tables.specs.Tables.{Holds}
 use Rattle.sheet_decode.specs.declared.judge.Verdict.{Verdict}
 use Rattle.sheet_decode.specs.declared.judge.Verdict.the-variants.{Accepted, Refused as VerdictRefused}
-use Rattle.sheet_decode.specs.declared.turn.Run.{Run}
-use Rattle.sheet_decode.specs.declared.turn.Run.the-variants.{Going, Ended, Refused as RunRefused}
+use Rattle.sheet_commands.specs.declared.turn.Run.{Run}
+use Rattle.sheet_commands.specs.declared.turn.Run.the-variants.{Going, Ended, Refused as RunRefused}
 use Rattle.sheet_decode.specs.declared.read.Decoded.{Decoded}
 use Rattle.sheet_decode.specs.declared.read.Decoded.the-variants.{Filled, Refused}
 use Rattle.sheet_decode.specs.declared.read.Graph.{Graph}
 use Rattle.sheet_decode.specs.declared.read.Answer.{Answer}
-
--- tables that hold no edge
-abbrev pub Blank : List ℕ → List ℕ → List ℕ → Type 0
-Blank parents low high = (n : ℕ) → Holds n [] [] parents low high 0
 
 -- the refusal, where there is one
 abbrev pub stopOf : Run → Decoded

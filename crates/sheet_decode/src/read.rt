@@ -1,13 +1,14 @@
 // A whole sheet: the graph that it spells, or its refusal.
 use crate::judge::Verdict;
 use crate::judge::judge;
-use crate::run::commands;
-use crate::turn::Run;
 use format::Refusal;
 use graph::NONE;
+use sheet_commands::run::commands;
+use sheet_commands::turn::Run;
 ghost use mathlib.Core.Path.{_≡_};
 ghost use Rattle.format.specs.Sheet.{outcome};
-ghost use Rattle.sheet_decode.specs.Read.{Blank, stopOf, unacceptedOf, Decoding, Reads};
+ghost use Rattle.sheet_commands.specs.Run.{Blank};
+ghost use Rattle.sheet_decode.specs.Read.{stopOf, unacceptedOf, Decoding, Reads};
 
 pub enum Decoded {
     // The number of nodes and of dominance edges.

@@ -23,8 +23,7 @@ use Rattle.base_tables.specs.Rows.{Closed}
 use Rattle.base_tables.specs.Sets.{inRow, RowPut}
 use Rattle.base_tables.specs.Trees.{TreesOf, Fits}
 use Rattle.base_tables.specs.declared.trees.Trees.{Trees}
-use Rattle.solve_reduce.specs.Below.{Fragments, UnderRoot}
-use Rattle.solve_reduce.specs.Reduced.{Under}
+use Rattle.solve_below.specs.Below.{Fragments, UnderRoot, Under}
 use Rattle.solve_test.specs.Tables.{End, EndRows, Blank}
 use Rattle.solve_branch.specs.Dives.{EndRow}
 use Rattle.solve_branch.specs.Dead.{Meets, Dead}

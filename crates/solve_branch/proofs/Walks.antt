@@ -20,8 +20,8 @@ use Rattle.theory_list.proofs.Keeping.{closes, first-fresh, second-fresh}
 use Rattle.theory_list.specs.Readings.{listed}
 use Rattle.base_tables.specs.Trees.{TreesOf, Fits}
 use Rattle.base_tables.specs.declared.trees.Trees.{Trees}
-use Rattle.solve_reduce.specs.Below.{Fragments}
-use Rattle.solve_reduce.specs.Reduced.{Under, LooplessForm}
+use Rattle.solve_below.specs.Below.{Fragments, Under}
+use Rattle.solve_reduce.specs.Reduced.{LooplessForm}
 use Rattle.solve_reduce.specs.Chosen.{Chosen}
 use Rattle.solve_reduce.specs.declared.choose.Fork.{Fork}
 use Rattle.solve_reduce.specs.declared.choose.Fork.the-variants.{None, At}

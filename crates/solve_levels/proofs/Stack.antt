@@ -15,9 +15,9 @@ use Rattle.base_finite.proofs.Laws.{by-bool}
 use Rattle.graph.specs.Graph.{Graph, own}
 use Rattle.theory_walk.specs.Walk.{Decision, graphAt}
 use Rattle.theory_walk.proofs.Decisions.{graph-own}
-use Rattle.solve_reduce.specs.Below.{Fragments}
+use Rattle.solve_below.specs.Below.{Fragments}
 use Rattle.solve_reduce.specs.Reduced.{wide}
-use Rattle.solve_reduce.proofs.Roots.{fragments-same}
+use Rattle.solve_below.proofs.Roots.{fragments-same}
 use Rattle.solve_levels.specs.Decisions.{upperAt, lowerAt, decisions, opens, reached, Kept}
 use Rattle.solve_levels.specs.Levels.{Reduction, Stack, state, Matches, Ready, Copied}
 use Rattle.solve_levels.specs.declared.Level.{Level}

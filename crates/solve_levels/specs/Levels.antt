@@ -8,7 +8,7 @@ use mathlib.Core.List.{List}
 use mathlib.Core.Logic.{_⊎_}
 use lib.ListN.{length, getD, take, drop}
 use Rattle.graph.specs.Graph.{Graph, own}
-use Rattle.solve_reduce.specs.Below.{Fragments}
+use Rattle.solve_below.specs.Below.{Fragments}
 use Rattle.solve_reduce.specs.Reduced.{wide, Reduced}
 use Rattle.solve_levels.specs.Decisions.{upperAt, lowerAt, opens, reached}
 use Rattle.solve_levels.specs.declared.Level.{Level}

@@ -3,8 +3,8 @@
 // levels kept, its decisions are replayed from the outset.
 use base_nodeset::NodeSet;
 use base_tables::trees::Trees;
-use solve_reduce::below::below;
-use solve_reduce::below::fragments;
+use solve_below::below;
+use solve_below::fragments;
 use solve_reduce::reduced::add;
 use solve_reduce::reduced::reduce;
 use solve_reduce::reduced::width;
@@ -21,8 +21,8 @@ ghost use Rattle.theory_list.specs.Keeping.{Fresh};
 ghost use Rattle.theory_walk.specs.Walk.{Valid};
 ghost use Rattle.base_tables.specs.Trees.{Bounded, TreesOf, Owners, Fits};
 ghost use Rattle.base_tables.specs.Sets.{Long, Rows};
-ghost use Rattle.solve_reduce.specs.Below.{Fragments, BelowRoot};
-ghost use Rattle.solve_reduce.specs.Reduced.{wide, Under};
+ghost use Rattle.solve_below.specs.Below.{Fragments, BelowRoot, Under};
+ghost use Rattle.solve_reduce.specs.Reduced.{wide};
 ghost use Rattle.solve_levels.specs.Decisions.{upperAt, lowerAt, decisions, opens, reached, Noted};
 ghost use Rattle.solve_levels.specs.Levels.{Stack, state, Copied, Matches, Ready};
 

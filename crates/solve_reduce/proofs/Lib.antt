@@ -2,6 +2,5 @@ pub mod Staying
 pub mod Choices
 pub mod Settling
 pub mod Tables
-pub mod Roots
 pub mod Rises
 pub mod Found

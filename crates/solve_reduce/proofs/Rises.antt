@@ -26,8 +26,7 @@ use Rattle.base_tables.specs.Sets.{inRow}
 use Rattle.base_tables.specs.Trees.{TreesOf}
 use Rattle.base_tables.specs.declared.trees.Trees.{Trees}
 use Rattle.solve_closure.specs.Closing.{Rising}
-use Rattle.solve_reduce.specs.Below.{OverLeaf}
-use Rattle.solve_reduce.specs.Reduced.{Reduced}
+use Rattle.solve_reduce.specs.Reduced.{OverLeaf, Reduced}
 
 -- by the rows
 pub over-rows : (g : Graph) {t : Trees} → TreesOf g t → {sets : List ℕ} → Reduced g (t .n) sets → (a : ℕ) (up r : NodeSet) → Rising (t .n) a sets up → Intersection up (t .leaves) r → OverLeaf g a r

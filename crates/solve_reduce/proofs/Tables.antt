@@ -29,8 +29,8 @@ use Rattle.base_tables.proofs.Tops.{descent-closed}
 use Rattle.base_tables.specs.Trees.{Bounded, TreesOf}
 use Rattle.base_tables.specs.declared.trees.Trees.{Trees}
 use Rattle.solve_closure.specs.Closing.{Joined}
-use Rattle.solve_reduce.specs.Below.{BelowRoot, OverLeaf}
-use Rattle.solve_reduce.specs.Reduced.{secondLowest, several, Forks, Wide, Under, Reduced, Laid, Revised, RevisedAt, Noted}
+use Rattle.solve_below.specs.Below.{BelowRoot, Under}
+use Rattle.solve_reduce.specs.Reduced.{OverLeaf, secondLowest, several, Forks, Wide, Reduced, Laid, Revised, RevisedAt, Noted}
 use Rattle.solve_reduce.specs.Staying.{headOf, Heads}
 use Rattle.solve_reduce.proofs.Staying.{head-kept}
 use Rattle.solve_reduce.proofs.Choices.{several-ext, several-none}

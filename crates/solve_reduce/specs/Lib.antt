@@ -1,4 +1,3 @@
 pub mod Reduced
 pub mod Staying
-pub mod Below
 pub mod Chosen

@@ -3,7 +3,7 @@ use Prim.Native.Nat.{ℕ, _+_, _*_, _≤_, _<_}
 use mathlib.Core.Path.{_≡_}
 use mathlib.Core.List.{List}
 use mathlib.Core.Bool.{Bool, true, cond, not, _&&_, _||_}
-use mathlib.Core.Logic.{_↔_}
+use mathlib.Core.Logic.{_⊎_, _↔_}
 use lib.Dec.{eqb, ltb}
 use lib.ListN.{length}
 use Rattle.base_finite.specs.Below.{least}
@@ -14,6 +14,7 @@ use Rattle.graph.specs.Order.{Kept}
 use Rattle.theory_forest.specs.Shape.{Shaped}
 use Rattle.theory_list.specs.Redundancy.{Loopless}
 use Rattle.base_tables.specs.Sets.{inRow}
+use Rattle.solve_below.specs.Below.{Under}
 
 -- the lowest but one of the numbers with p, and 128 where there are no two
 abbrev pub secondLowest : (ℕ → Bool) → ℕ
@@ -34,10 +35,6 @@ wide n = 2 * n + 2
 abbrev pub Wide : ℕ → List ℕ → Type 0
 Wide n sets = wide n ≤ length sets
 
--- the row of each leaf has the nodes under it
-abbrev pub Under : Graph → List ℕ → Type 0
-Under g sets = (l v : ℕ) → leaf g l ≡ true → (inRow sets l v ≡ true) ↔ Descent g l v
-
 -- Of each leaf the nodes under it, of each root the leaves whose edges to it stay, and last the roots that several of them have
 -- edges to. With a cycle in the graph what stays is of no use, and nothing is said of it.
 pub record Reduced (g : Graph) (n : ℕ) (sets : List ℕ) : Type 0 where
@@ -51,6 +48,10 @@ pub record LooplessForm (g : Graph) (n : ℕ) (sets : List ℕ) : Type 0 where
   pub loopless : Loopless g
   pub nodes : n ≡ g .nodes
   pub reduced : Reduced g n sets
+
+-- a leaf, and the leaves above it
+abbrev pub OverLeaf : Graph → ℕ → NodeSet → Type 0
+OverLeaf g a s = (l : ℕ) → (mem s l ≡ true) ↔ ((leaf g l ≡ true) × ((l ≡ a) ⊎ Descent g l a))
 
 -- What the parts do to the table.
 

@@ -1,5 +1,4 @@
 // A graph's reduced form, kept in a table: Rule 2, the choice of Rule 3, and the placing where no choice is left.
-pub mod below;
 pub mod choose;
 mod forks;
 mod heads;

@@ -13,8 +13,7 @@ ghost use Rattle.base_nodeset.specs.Set.{mem};
 ghost use Rattle.graph.specs.Graph.{Graph, leaf};
 ghost use Rattle.theory_list.specs.Redundancy.{Loopless};
 ghost use Rattle.base_tables.specs.Trees.{Owners, Fits};
-ghost use Rattle.solve_reduce.specs.Below.{OverLeaf};
-ghost use Rattle.solve_reduce.specs.Reduced.{Reduced};
+ghost use Rattle.solve_reduce.specs.Reduced.{OverLeaf, Reduced};
 
 // So many leaves are looked for by their edges.
 const FEW: usize = 3;

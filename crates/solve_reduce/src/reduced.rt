@@ -21,7 +21,7 @@ ghost use Rattle.theory_list.specs.Keeping.{Fresh};
 ghost use Rattle.theory_list.specs.Redundancy.{Loopless};
 ghost use Rattle.base_tables.specs.Sets.{Long, inRow, Rows};
 ghost use Rattle.base_tables.specs.Trees.{Bounded, TreesOf, Owners, Fits};
-ghost use Rattle.solve_reduce.specs.Below.{BelowRoot};
+ghost use Rattle.solve_below.specs.Below.{BelowRoot};
 ghost use Rattle.solve_reduce.specs.Reduced.{wide, Wide, Forks, Reduced, Laid, Revised, RevisedAt};
 
 // The words for 128 nodes.

@@ -5,7 +5,7 @@ use solve_branch::dive::Dived;
 use solve_branch::dive::back;
 use solve_branch::dive::dead;
 use solve_branch::dive::turn;
-use solve_branch::tested::descend;
+use solve_descend::descend;
 use solve_levels::Level;
 use solve_levels::start;
 ghost use Prim.Native.Nat.{ℕ, _+_, _<_};

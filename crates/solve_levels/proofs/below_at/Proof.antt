@@ -5,8 +5,7 @@ use mathlib.Core.List.{List}
 use native.Mathlib.Omega.{arith}
 use denote.Ref.{now}
 use Rattle.graph.specs.Graph.{own}
-use Rattle.solve_reduce.specs.Below.{Fragments}
-use Rattle.solve_reduce.specs.Reduced.{Under}
+use Rattle.solve_below.specs.Below.{Fragments, Under}
 use Rattle.solve_levels.proofs.Stack.{lent-state}
 use borrow.Author.Needs.{needs}
 use Rattle.solve_levels.proofs.below_at.Statement.{statement}

@@ -4,7 +4,7 @@ use mathlib.Core.Path.{refl, ap}
 use mathlib.Core.Logic.{inr}
 use native.Mathlib.Omega.{arith}
 use denote.Ref.{now}
-use Rattle.solve_reduce.proofs.Roots.{fragments-own}
+use Rattle.solve_below.proofs.Roots.{fragments-own}
 use Rattle.solve_levels.proofs.Stack.{outset-made}
 use Rattle.solve_levels.proofs.Fitting.{at-reduction}
 use borrow.Author.Needs.{needs}

@@ -3,7 +3,7 @@ use mathlib.Core.Path.{sym}
 use mathlib.Core.Bool.{true≢false}
 use native.Mathlib.Omega.{arith}
 use denote.Ref.{now}
-use Rattle.solve_reduce.proofs.Roots.{fragments-own}
+use Rattle.solve_below.proofs.Roots.{fragments-own}
 use Rattle.solve_reduce.proofs.Found.{chosen-none, chosen-choice, found-bounds}
 use Rattle.check_placing.proofs.Guides.{owned, turned, ended}
 use borrow.Author.Needs.{needs}

@@ -9,8 +9,7 @@ use Rattle.base_finite.proofs.Laws.{and-both}
 use Rattle.base_nodeset.specs.Set.{mem}
 use Rattle.base_nodeset.proofs.Members.{removed-member}
 use Rattle.graph.specs.Graph.{own}
-use Rattle.solve_reduce.specs.Below.{Fragments}
-use Rattle.solve_reduce.specs.Reduced.{Under}
+use Rattle.solve_below.specs.Below.{Fragments, Under}
 use Rattle.solve_levels.proofs.Stack.{lent-state}
 use Rattle.solve_branch.proofs.Ends.{dead-cycle, dead-torn}
 use borrow.Author.Needs.{needs}

@@ -1,0 +1,164 @@
+-- What a turn says of `outcomeAfter`: the tests on the tables are the tests on the edges that they hold, and a table with
+-- the edge put in holds one edge more.
+use Prim.Native.Nat.{ℕ, _+_, _≤_, _<_}
+use mathlib.Core.Path.{_≡_, refl, sym, _∙_}
+use mathlib.Core.List.{List, [], _∷_}
+use mathlib.Core.Bool.{true, false, not, _||_, _&&_}
+use mathlib.Core.Logic.{⊎-elim}
+use native.Mathlib.Numerals.{add-one}
+use native.Mathlib.Omega.{arith}
+use lib.Dec.{eqb, leb}
+use lib.ListN.{length, getD, set, length-set}
+use lib.Seq.{getD-set-same, getD-set-other}
+use types.Run.{OneOf}
+use denote.Enum.Declared.{tagOf}
+use borrow.Author.Tests.{le-leb, eqb-true, eqb-false}
+use Rattle.base_nodeset.specs.Set.{Inserted}
+use Rattle.base_nodeset.specs.declared.NodeSet.{NodeSet}
+use Rattle.base_tables.specs.Rows.{inRow, IsRow, RowPut}
+use Rattle.base_finite.proofs.Laws.{by-bool, or-right, or-none, eqb-sym}
+use Rattle.graph.specs.Graph.{Edge, among, entered, single, parent, none}
+use Rattle.format.specs.Sheet.{beyond}
+use Rattle.format.specs.declared.Refusal.the-variants.{Command, Range, Tree as TreeRefusal, Repeated, TooMany}
+use Rattle.theory_edges.specs.Edges.{Within}
+use Rattle.theory_format.proofs.Spelling.{not-beyond}
+use Rattle.theory_edges.proofs.Edges.{among-cases}
+use Rattle.sheet_commands.proofs.command.Step.{the-type}
+use Rattle.sheet_commands.specs.declared.command.Step.{Step}
+use Rattle.sheet_commands.specs.declared.command.Step.the-variants.{Nodes, Tree, Dominance, End, Refused as StepRefused}
+use Rattle.base_tables.specs.Tables.{Holds}
+use Rattle.base_tables.proofs.Parents.{parent-tells}
+use Rattle.sheet_commands.specs.Turn.{stopOf, begun, outcomeAfter, Past, Reached, treeAnswer, dominanceAnswer, ParentsAfter, HeadsAfter}
+use Rattle.sheet_commands.specs.declared.turn.Run.{Run}
+use Rattle.sheet_commands.specs.declared.turn.Run.the-variants.{Going, Ended, Refused}
+
+-- the first command
+
+pub stop-other : (x : Step) → OneOf (0 ∷ 1 ∷ 2 ∷ 3 ∷ []) (tagOf the-type x) → Refused Command ≡ stopOf x
+stop-other (Nodes n) o = refl
+stop-other (Tree p c) o = refl
+stop-other (Dominance l r) o = refl
+stop-other End o = refl
+stop-other (StepRefused why) o = absurd (⊎-elim (λ q. omega arith) (⊎-elim (λ q. omega arith) (⊎-elim (λ q. omega arith) (λ q. omega arith))) o)
+
+pub stop-begun : (x : Step) → OneOf (1 ∷ 2 ∷ 3 ∷ 4 ∷ []) (tagOf the-type x) → stopOf x ≡ begun x
+stop-begun (Nodes n) o = absurd (⊎-elim (λ q. omega arith) (⊎-elim (λ q. omega arith) (⊎-elim (λ q. omega arith) (λ q. omega arith))) o)
+stop-begun (Tree p c) o = refl
+stop-begun (Dominance l r) o = refl
+stop-begun End o = refl
+stop-begun (StepRefused why) o = refl
+
+-- the later ones
+
+pub wide : (k : ℕ) (x : Run) → 0 < k → Past k x
+wide k (Going n edges) h = h
+wide k (Ended n edges) h = tt
+wide k (Refused why) h = tt
+
+pub beyond-first : (n x y : ℕ) → n ≤ x → beyond n x y ≡ true
+unfolding beyond
+beyond-first n x y h = rw (le-leb n x h)
+
+pub beyond-second : (n x y : ℕ) → n ≤ y → beyond n x y ≡ true
+unfolding beyond
+beyond-second n x y h = or-right (leb n x) (leb n y) (le-leb n y h)
+
+-- a set of roots with r put in at l, in the tables
+pub heads-put : (l r : ℕ) (heads more : NodeSet) (low high low′ high′ : List ℕ) → IsRow (inRow low high) l heads → Inserted heads r more → RowPut l more low high low′ high′
+    → (a b : ℕ) → inRow low′ high′ a b ≡ (eqb l a && eqb r b || inRow low high a b)
+heads-put l r heads more low high low′ high′ is with-r put a b =
+    put .row-is a b
+    ∙ by-bool (eqb l a)
+    (λ (e : eqb l a ≡ true). rw (eqb-sym a l, e, with-r b, is b, eqb-sym b r, eqb-true l a e))
+    (λ (e : eqb l a ≡ false). rw (eqb-sym a l, e))
+
+within-more : (n x y : ℕ) (es : List Edge) → beyond n x y ≡ false → Within n es → Within n ((x, y) ∷ es)
+within-more n x y es e w u v a =
+    let b = not-beyond n x y e in
+    ⊎-elim
+    (λ (q : (x ≡ u) × (y ≡ v)). (omega (arith, b .0, q .0), omega (arith, b .1, q .1)))
+    (λ (m : among es u v ≡ true). w u v m)
+    (among-cases (x, y) es u v a)
+
+module _ (n : ℕ) (t d : List Edge) (rest parents low high : List ℕ) (edges : ℕ) (few : n ≤ 128) (holds : Holds n t d parents low high edges) where
+  tree-more : (p c : ℕ) → beyond n p c ≡ false → entered t c ≡ false → Holds n ((p, c) ∷ t) d (set parents c p) low high edges
+  unfolding parent single
+  tree-more p c b u =
+      let w = not-beyond n p c b in
+      record {
+        tree-within = within-more n p c t b (holds .tree-within);
+        one-parent = rw (u, holds .one-parent);
+        dominance-within = holds .dominance-within;
+        parents-long = length-set parents c p ∙ holds .parents-long;
+        low-long = holds .low-long;
+        high-long = holds .high-long;
+        parent-is = parent-now (w .1);
+        heads-are = holds .heads-are;
+        edges-are = holds .edges-are;
+      }
+    where
+      parent-now : c < n → (v : ℕ) → v < 128 → getD (set parents c p) v 0 ≡ parent ((p, c) ∷ t) v
+      parent-now cn v h =
+          by-bool (eqb c v)
+          (λ (e : eqb c v ≡ true).
+          let long = holds .parents-long in
+          rw (e, ← eqb-true c v e, getD-set-same parents c p 0 (omega arith)))
+          (λ (e : eqb c v ≡ false).
+          rw (e, getD-set-other parents c v p 0 (λ q. eqb-false c v e (sym q)), holds .parent-is v h))
+
+  pub tree-turn : (p c : ℕ) (x : Run) (after : List ℕ) → x ≡ treeAnswer n p c edges parents → ParentsAfter p c x parents after
+      → Reached (outcomeAfter n t d rest (Tree p c)) rest x after low high
+  unfolding Reached outcomeAfter
+  tree-turn p c x after e a =
+      by-bool (beyond n p c)
+      (λ (b : beyond n p c ≡ true). let q : x ≡ Refused Range = e ∙ rw b in rw (q, b))
+      (λ (b : beyond n p c ≡ false).
+      let w = not-beyond n p c b in
+      let same : not (eqb (getD parents c 0) none) ≡ entered t c =
+      rw (holds .parent-is c (omega (arith, w .1))) (sym (parent-tells n t c few (holds .tree-within))) in
+      by-bool (eqb p c || entered t c)
+      (λ (f : (eqb p c || entered t c) ≡ true). let q : x ≡ Refused TreeRefusal = e ∙ rw (b, same, f) in rw (q, b, f))
+      (λ (f : (eqb p c || entered t c) ≡ false).
+      let q : x ≡ Going n edges = e ∙ rw (b, same, f) in
+      let put : after ≡ set parents c p = rw q at a in
+      rw (q, put, b, f) ((p, c) ∷ t, d, few, refl, tree-more p c b (or-none (eqb p c) (entered t c) f .1))))
+
+  dominance-more : (l r : ℕ) (low′ high′ : List ℕ) → beyond n l r ≡ false → length low′ ≡ length low → length high′ ≡ length high
+      → HeadsAfter l r (Going n (edges + 1)) low high low′ high′ → Holds n t ((l, r) ∷ d) parents low′ high′ (edges + 1)
+  unfolding among
+  dominance-more l r low′ high′ b el eh a =
+      record {
+        tree-within = holds .tree-within;
+        one-parent = holds .one-parent;
+        dominance-within = within-more n l r d b (holds .dominance-within);
+        parents-long = holds .parents-long;
+        low-long = el ∙ holds .low-long;
+        high-long = eh ∙ holds .high-long;
+        parent-is = holds .parent-is;
+        heads-are = λ u v. a u v ∙ rw (holds .heads-are u v);
+        edges-are = rw (holds .edges-are) (add-one (length d));
+      }
+
+  pub dominance-turn : (l r : ℕ) (x : Run) (low′ high′ : List ℕ) → length low′ ≡ length low → length high′ ≡ length high
+      → x ≡ dominanceAnswer n l r edges low high → HeadsAfter l r x low high low′ high′ → Reached (outcomeAfter n t d rest (Dominance l r)) rest x parents low′ high′
+  unfolding Reached outcomeAfter
+  dominance-turn l r x low′ high′ el eh e a =
+      let same = holds .heads-are l r in
+      let long = holds .edges-are in
+      by-bool (beyond n l r)
+      (λ (b : beyond n l r ≡ true). let q : x ≡ Refused Range = e ∙ rw b in rw (q, b))
+      (λ (b : beyond n l r ≡ false).
+      by-bool (among d l r)
+      (λ (f : among d l r ≡ true). let q : x ≡ Refused Repeated = e ∙ rw (b, same, f) in rw (q, b, f))
+      (λ (f : among d l r ≡ false).
+      by-bool (leb 255 edges)
+      (λ (m : leb 255 edges ≡ true). let q : x ≡ Refused TooMany = e ∙ rw (b, same, f, m) in rw (q, b, f, ← long, m))
+      (λ (m : leb 255 edges ≡ false).
+      let q : x ≡ Going n (edges + 1) = e ∙ rw (b, same, f, m) in
+      let put : HeadsAfter l r (Going n (edges + 1)) low high low′ high′ = rw q at a in
+      let least : leb 255 (length d) ≡ false = rw (← long) m in
+      rw (q, b, f, least) (t, (l, r) ∷ d, few, refl, dominance-more l r low′ high′ b el eh put))))
+
+  pub end-turn : Reached (outcomeAfter n t d rest End) rest (Ended n edges) parents low high
+  unfolding Reached outcomeAfter
+  end-turn = (t, d, few, refl, holds)

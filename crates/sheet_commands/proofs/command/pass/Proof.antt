@@ -1,0 +1,29 @@
+use mathlib.Core.Path.{ap}
+use native.Mathlib.Omega.{arith}
+use denote.Ref.{now}
+use Rattle.sheet_commands.specs.Step.{widthOf}
+use Rattle.sheet_commands.proofs.Runs.{step-within}
+use borrow.Author.Needs.{needs}
+use Rattle.sheet_commands.proofs.command.pass.Statement.{statement}
+use Rattle.sheet_commands.proofs.command.pass.Tie as tie
+
+decode-requires : tie.Need-decode-requires
+decode-requires c κs = search needs
+
+width-requires : tie.Need-width-requires
+width-requires c κs = search needs
+
+add-t5 : tie.Need-add-t5
+add-t5 c = omega (arith, c .width .ensures, ap widthOf (c .before .decode .ensures), step-within (now (c .before .before .before .args .sheet)) (c .before .before .before .args .at))
+
+returns : tie.Need-returns
+returns c = rw (c .width .ensures, c .before .decode .ensures)
+
+pub pass-spec : {M : Type 1} → statement M
+pass-spec =
+    tie.close
+    (tie.spec
+    decode-requires
+    width-requires
+    add-t5
+    returns)

@@ -1,0 +1,4 @@
+pub mod Step
+pub mod Reader
+pub mod Turn
+pub mod Run

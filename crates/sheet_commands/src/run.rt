@@ -1,0 +1,23 @@
+// All commands of a sheet, one after the other.
+use crate::reader::Reader;
+use crate::turn::Run;
+use crate::turn::begin;
+use crate::turn::turn;
+ghost use Rattle.sheet_commands.specs.Run.{Ran, Blank};
+
+pub fn commands(sheet: &[u8], parent: &mut [u8], low: &mut [u64], high: &mut [u64]) -> Run
+    requires { ⌜ Blank (now parent) (now low) (now high) ⌝ }
+    ensures { λ x. ⌜ Ran (now (sheet .entry)) x (now (parent .exit)) (now (low .exit)) (now (high .exit)) ⌝ }
+{
+    let first = Reader { sheet, at: 0 }.next();
+    let mut run = begin(first.step);
+    let mut reader = first.reader;
+    loop {
+        let Run::Going(n, edges) = run else {
+            return run;
+        };
+        let taken = reader.next();
+        run = turn(taken.step, n, edges, parent, low, high);
+        reader = taken.reader;
+    }
+}
