@@ -138,15 +138,24 @@ fn more_than_there_are_numbers() {
     agree(&pairs(10, &above), "readings more than 65535\n1 ");
 }
 
+/// No input is longer whose last byte makes a difference: 127 tree edges, and then the 256th dominance edge. The whole of it is read.
+#[test]
+fn the_last_byte_that_counts() {
+    let tree: Vec<_> = (1..128).map(|child| (0, child)).collect();
+    let dominance: Vec<_> = (0..2).flat_map(|leaf| (0..128).map(move |root| (leaf, root))).collect();
+    let input = sheet::write(128, &tree, &dominance);
+    agree(&input[..1151], "refused 8\n");
+    agree(&input[..1150], "refused 1\n");
+}
+
 /// What stands after 2,048 bytes does not count, and what stands before it does.
 #[test]
 fn inputs_of_2048_bytes_and_more() {
-    let mut longest = pairs(64, &(0..255).map(|i| (2 * (i % 16) + 1, 2 * (16 + i / 16))).collect::<Vec<_>>());
-    assert_eq!(longest.len(), 2 + 3 * 64 + 3 * 255 + 1);
-    agree(&longest, "readings more than 65535\n1 ");
+    let mut long = pairs(64, &(0..255).map(|i| (2 * (i % 16) + 1, 2 * (16 + i / 16))).collect::<Vec<_>>());
+    agree(&long, "readings more than 65535\n1 ");
     for length in [2047, 2048, 2049, 100_000] {
-        longest.resize(length, 0);
-        agree(&longest, "refused 2\n");
+        long.resize(length, 0);
+        agree(&long, "refused 2\n");
         agree(&vec![0; length], "refused 2\n");
     }
 }
