@@ -1,12 +1,16 @@
-// Tidies each sheet of the input and tabulates its fragments. A sheet comes with its length, two bytes, before it.
+// Tidies each sheet of the input and tabulates its fragments; a sheet that is refused goes to every other call as well. A sheet comes
+// with its length, two bytes, before it.
+mod calls;
+
 use base_text::hex_line;
 use base_text::refused_line;
+use calls::refused_calls;
+use counter::fragment_table;
+use counter::tidy;
 use format::Refusal;
 use libc::STDOUT_FILENO;
 use sheet_encode::Tidied;
-use sheet_encode::tidy;
 use sheet_fragments::Table;
-use sheet_fragments::fragment_table;
 ghost use Prim.Native.Nat.{_≤_, _<_};
 ghost use lib.ListN.{length};
 
@@ -37,10 +41,18 @@ fn print_table(sheet: &[u8]) {
     }
 }
 
+fn print_calls(sheet: &[u8]) {
+    io::write_all(STDOUT_FILENO, b"calls ");
+    print_bytes(&refused_calls(sheet));
+}
+
 fn print_sheet(sheet: &[u8]) {
     let mut out = [0u8; 2048];
     match tidy(sheet, &mut out) {
-        Tidied::Refused(why) => print_refusal(why),
+        Tidied::Refused(why) => {
+            print_refusal(why);
+            print_calls(sheet);
+        }
         Tidied::Length(bytes) => {
             if bytes <= 2048 {
                 io::write_all(STDOUT_FILENO, b"tidy ");

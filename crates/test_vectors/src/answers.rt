@@ -1,4 +1,5 @@
-// Answers as numbers and tests.
+// The calls lent a part of a buffer, and tests of what they answer and leave there.
+use capi_put::put_drawn;
 use check_placing::Answers;
 use counter::CycleChecked;
 use counter::Next;
@@ -8,6 +9,7 @@ use counter::PlacingChecked;
 use counter::check_cycle;
 use counter::check_placing;
 use counter::configuration;
+use counter::drawing;
 ghost use Prim.Native.Nat.{_≤_};
 
 // What the lent bytes hold before a call.
@@ -51,6 +53,15 @@ pub fn untouched(out: &[u8], from: usize) -> bool {
         }
     }
     true
+}
+
+// Whether the drawing of the reading wanted has this number, and the bytes past it are as they were lent.
+pub fn drawn_as(sheet: &[u8], wanted: usize, out: &mut [u8], number: u8) -> bool {
+    let mut bytes = 0;
+    if put_drawn(drawing(sheet, wanted, out), &mut bytes) != number {
+        return false;
+    }
+    untouched(out, bytes as usize)
 }
 
 // The first bytes of the table, which has so many.

@@ -1,6 +1,6 @@
-// Takes the sheets of its input through the public calls, each against the second solver: the cases of document 01, the chains
-// of Section 9 of document 000, and generated ones. A mismatch is an answer that is not what the documents and the second
-// solver say.
+// Takes the well-formed sheets of its input through the public calls, each against the second solver: the cases of document 01, the
+// chains of Section 9 of document 000, and generated ones. A mismatch is a sheet with an answer that is not what the documents and
+// the second solver say.
 mod answers;
 mod lines;
 mod refused;
@@ -12,7 +12,6 @@ use answers::is_cycle;
 use answers::plus;
 use lines::case;
 use lines::summary;
-use refused::malformed;
 use test_second::table::byte;
 use trial::Found;
 use trial::trial;
@@ -43,39 +42,36 @@ fn field(input: &[u8], at: usize) -> &[u8] {
     &input[start..end]
 }
 
-// A sheet that is refused with the number, 1 to 8, or one that is well-formed, and the number 0. The cycle, if there is one, is
-// the sheet's.
-fn tried(number: u8, cycle: &[u8], sheet: &[u8]) -> Found {
-    if number != 0 {
-        let wrong = malformed(sheet, number);
-        return Found { readings: 0, wrong };
-    }
+// The cycle, if there is one, is the sheet's.
+fn tried(cycle: &[u8], sheet: &[u8]) -> Found {
     let found = trial(sheet);
     if cycle.len() == 0 {
         return found;
     }
-    let wrong = plus(found.wrong, fails(is_cycle(sheet, cycle)));
+    if is_cycle(sheet, cycle) {
+        return found;
+    }
     Found {
         readings: found.readings,
-        wrong,
+        right: false,
     }
 }
 
 // A sheet with a name gets lines of its own.
-fn one_sheet(name: &[u8], number: u8, cycle: &[u8], sheet: &[u8], sums: Sums) -> Sums {
-    let found = tried(number, cycle, sheet);
+fn one_sheet(name: &[u8], cycle: &[u8], sheet: &[u8], sums: Sums) -> Sums {
+    let found = tried(cycle, sheet);
     if name.len() != 0 {
-        case(name, number, sheet, found.readings);
+        case(name, sheet, found.readings);
     }
     Sums {
         sheets: plus(sums.sheets, 1),
         refused: plus(sums.refused, fails(found.readings != 0)),
         readings: plus(sums.readings, found.readings),
-        wrong: plus(sums.wrong, found.wrong),
+        wrong: plus(sums.wrong, fails(found.right)),
     }
 }
 
-// Four fields a sheet: name, number, cycle, and the sheet itself.
+// Three fields a sheet: name, cycle, and the sheet itself.
 fn all_sheets(input: &[u8]) -> Sums {
     let mut sums = Sums {
         sheets: 0,
@@ -90,16 +86,13 @@ fn all_sheets(input: &[u8]) -> Sums {
         }
         let second = end_of(input, at);
         let third = end_of(input, second);
-        let fourth = end_of(input, third);
-        let number = byte(field(input, second), 0) as u8;
         sums = one_sheet(
             field(input, at),
-            number,
+            field(input, second),
             field(input, third),
-            field(input, fourth),
             sums,
         );
-        at = end_of(input, fourth);
+        at = end_of(input, third);
     }
     sums
 }

@@ -1,6 +1,4 @@
 // One well-formed sheet through all calls.
-use crate::answers::fails;
-use crate::answers::plus;
 use crate::refused::no_reading;
 use crate::refused::short_buffers;
 use crate::solved::all_top;
@@ -26,42 +24,59 @@ fn limit(n: usize) -> usize {
 
 pub struct Found {
     pub readings: usize,
-    pub wrong: usize,
+    pub right: bool,
 }
 
 // The list, against the second solver's.
-fn listed(sheet: &[u8], size: Size) -> usize {
+fn listed(sheet: &[u8], size: Size) -> bool {
     let n = size.nodes;
-    let readings = size.readings;
     let mut table = io::large_buffer();
-    let rows = test_second::list(sheet, readings, &mut table);
-    let mut wrong = fails(rows == readings);
-    wrong = plus(wrong, same_list(sheet, n, &table, rows));
-    plus(wrong, same_verdict(sheet, n, &table, rows))
+    let rows = test_second::list(sheet, size.readings, &mut table);
+    if rows != size.readings {
+        return false;
+    }
+    if !same_list(sheet, n, &table, rows) {
+        return false;
+    }
+    same_verdict(sheet, n, &table, rows)
 }
 
 // A sheet that has readings.
-fn solvable(sheet: &[u8], size: Size) -> usize {
+fn solvable(sheet: &[u8], size: Size) -> bool {
     let readings = size.readings;
-    let mut wrong = same_count(sheet, readings);
-    wrong = plus(wrong, drawings(sheet, readings));
-    wrong = plus(wrong, all_top(sheet, size.edges));
-    plus(wrong, configured(sheet, size.nodes))
+    if !same_count(sheet, readings) {
+        return false;
+    }
+    if !drawings(sheet, readings) {
+        return false;
+    }
+    if !all_top(sheet, size.edges) {
+        return false;
+    }
+    if !configured(sheet, size.nodes) {
+        return false;
+    }
+    if limit(size.nodes) < readings {
+        return true;
+    }
+    listed(sheet, size)
 }
 
-// How many readings the second solver finds, 65,536 for more, and how many answers of the calls are not as they must be.
+// How many readings the second solver finds, 65,536 for more, and whether the answers of the calls are as they must be.
 pub fn trial(sheet: &[u8]) -> Found {
     let size = test_second::measure(sheet);
     let n = size.nodes;
     let readings = size.readings;
-    let mut wrong = short_buffers(sheet, n);
+    if !short_buffers(sheet, n) {
+        return Found {
+            readings,
+            right: false,
+        };
+    }
     if readings == 0 {
-        wrong = plus(wrong, no_reading(sheet, n));
-        return Found { readings, wrong };
+        let right = no_reading(sheet, n);
+        return Found { readings, right };
     }
-    wrong = plus(wrong, solvable(sheet, size));
-    if readings <= limit(n) {
-        wrong = plus(wrong, listed(sheet, size));
-    }
-    Found { readings, wrong }
+    let right = solvable(sheet, size);
+    Found { readings, right }
 }

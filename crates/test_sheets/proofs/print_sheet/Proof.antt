@@ -17,6 +17,9 @@ enum-known-why c = search needs
 print-refusal-requires : tie.Need-print-refusal-requires
 print-refusal-requires c κs = search needs
 
+print-calls-requires : tie.Need-print-calls-requires
+print-calls-requires c κs = search needs
+
 enum-known-bytes : tie.Need-enum-known-bytes
 enum-known-bytes c = search needs
 
@@ -55,6 +58,7 @@ print-sheet-spec =
     tidy-requires
     enum-known-why
     print-refusal-requires
+    print-calls-requires
     enum-known-bytes
     slice-aggregate-write-all
     write-all-requires

@@ -21,17 +21,8 @@ end-of-requires c κs = search needs
 end-of-requires-2 : tie.Need-end-of-requires-2 Inv-loop μ-loop
 end-of-requires-2 c κs = search needs
 
-end-of-requires-3 : tie.Need-end-of-requires-3 Inv-loop μ-loop
-end-of-requires-3 c κs = search needs
-
 field-requires : tie.Need-field-requires Inv-loop μ-loop
 field-requires c κs = search needs
-
-byte-requires : tie.Need-byte-requires Inv-loop μ-loop
-byte-requires c κs = search needs
-
-cast-number : tie.Need-cast-number Inv-loop μ-loop
-cast-number c = search needs
 
 field-requires-2 : tie.Need-field-requires-2 Inv-loop μ-loop
 field-requires-2 c κs = search needs
@@ -39,14 +30,11 @@ field-requires-2 c κs = search needs
 field-requires-3 : tie.Need-field-requires-3 Inv-loop μ-loop
 field-requires-3 c κs = search needs
 
-field-requires-4 : tie.Need-field-requires-4 Inv-loop μ-loop
-field-requires-4 c κs = search needs
-
 one-sheet-requires : tie.Need-one-sheet-requires Inv-loop μ-loop
 one-sheet-requires c κs = search needs
 
-end-of-requires-4 : tie.Need-end-of-requires-4 Inv-loop μ-loop
-end-of-requires-4 c κs = search needs
+end-of-requires-3 : tie.Need-end-of-requires-3 Inv-loop μ-loop
+end-of-requires-3 c κs = search needs
 
 add--sheet : tie.Need-add--sheet Inv-loop μ-loop
 add--sheet c = search needs
@@ -70,15 +58,11 @@ all-sheets-spec =
     returns
     end-of-requires
     end-of-requires-2
-    end-of-requires-3
     field-requires
-    byte-requires
-    cast-number
     field-requires-2
     field-requires-3
-    field-requires-4
     one-sheet-requires
-    end-of-requires-4
+    end-of-requires-3
     add--sheet
     loop-less
     loop-again

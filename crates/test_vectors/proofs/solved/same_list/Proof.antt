@@ -6,10 +6,10 @@ use Rattle.test_vectors.proofs.solved.same_list.Statement.{statement}
 use Rattle.test_vectors.proofs.solved.same_list.Tie as tie
 
 abbrev Inv-loop : tie.InvT-loop
-Inv-loop sheet n table rows seen₀ wrong₀ row₀ seen wrong row = length seen ≡ 2048
+Inv-loop sheet n table rows seen₀ row₀ seen row = length seen ≡ 2048
 
 abbrev μ-loop : tie.MeasureT-loop
-μ-loop sheet n table rows seen₀ wrong₀ row₀ seen wrong row = rows - row
+μ-loop sheet n table rows seen₀ row₀ seen row = rows - row
 
 loop-holds : tie.Need-loop-holds Inv-loop μ-loop
 loop-holds c = search needs
@@ -20,8 +20,8 @@ slice-aggregate-same-reading c = search needs
 same-reading-requires : tie.Need-same-reading-requires Inv-loop μ-loop
 same-reading-requires c κs = search needs
 
-plus-requires : tie.Need-plus-requires Inv-loop μ-loop
-plus-requires c κs = search needs
+returns : tie.Need-returns Inv-loop μ-loop
+returns c = search needs
 
 add-row : tie.Need-add-row Inv-loop μ-loop
 add-row c = search needs
@@ -35,11 +35,8 @@ loop-again c = search needs
 at-end-requires : tie.Need-at-end-requires Inv-loop μ-loop
 at-end-requires c κs = search needs
 
-plus-requires-2 : tie.Need-plus-requires-2 Inv-loop μ-loop
-plus-requires-2 c κs = search needs
-
-returns : tie.Need-returns Inv-loop μ-loop
-returns c = search needs
+returns-2 : tie.Need-returns-2 Inv-loop μ-loop
+returns-2 c = search needs
 
 pub same-list-spec : {M : Type 1} → statement M
 same-list-spec =
@@ -50,10 +47,9 @@ same-list-spec =
     loop-holds
     slice-aggregate-same-reading
     same-reading-requires
-    plus-requires
+    returns
     add-row
     loop-less
     loop-again
     at-end-requires
-    plus-requires-2
-    returns)
+    returns-2)
