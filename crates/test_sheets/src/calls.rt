@@ -11,7 +11,9 @@ use counter::configuration;
 use counter::count;
 use counter::drawing;
 use counter::fragment_table;
+use counter::tidy;
 use format::number;
+use sheet_encode::Tidied;
 use sheet_fragments::Table;
 
 // What the lent bytes hold before the calls.
@@ -53,6 +55,13 @@ fn drawn(sheet: &[u8], out: &mut [u8]) -> u8 {
     }
 }
 
+fn tidied(sheet: &[u8], out: &mut [u8]) -> u8 {
+    match tidy(sheet, out) {
+        Tidied::Length(_) => 0,
+        Tidied::Refused(why) => number(why),
+    }
+}
+
 fn tabled(sheet: &[u8], out: &mut [u8]) -> u8 {
     match fragment_table(sheet, out) {
         Table::Filled(_) => 0,
@@ -60,15 +69,16 @@ fn tabled(sheet: &[u8], out: &mut [u8]) -> u8 {
     }
 }
 
-// The numbers that count, checks, reading, configuration, drawing and table give, with the place handed back after the reading's; then
-// the four bytes that these were lent.
-pub fn refused_calls(sheet: &[u8]) -> [u8; 12] {
+// The numbers that count, checks, reading, configuration, drawing, tidying and table give, with the place handed back after the
+// reading's; then the four bytes that these were lent.
+pub fn refused_calls(sheet: &[u8]) -> [u8; 13] {
     let mut out = [MARK; 4];
     let next = Place { number: 1 }.next(sheet, &mut out);
     let answer = next.answer;
     let place = next.place;
     let configured = placed(configuration(sheet, &mut out));
     let drawn = drawn(sheet, &mut out);
+    let tidied = tidied(sheet, &mut out);
     let tabled = tabled(sheet, &mut out);
     [
         counted(sheet),
@@ -78,6 +88,7 @@ pub fn refused_calls(sheet: &[u8]) -> [u8; 12] {
         (place.number % 256) as u8,
         configured,
         drawn,
+        tidied,
         tabled,
         out[0],
         out[1],
