@@ -5,20 +5,22 @@
  *
  *     0x01 n      there are n nodes, 2 to 128, numbered from 0; comes first, and once
  *     0x02 p c    a tree edge from parent p to child c
- *     0x03 l r    a dominance edge from leaf l to root r; at most 255 of them, all different
+ *     0x03 l r    a dominance edge from leaf l to root r; at most 255 different ones
  *     0x00        the end, the last byte
  *
  * Tree edges and dominance edges come in any order. The tree edges make trees of two or more
- * nodes each, the fragments. A dominance edge goes from a leaf to a root, of one fragment or two.
+ * nodes each, the fragments. A dominance edge goes from a leaf to a root, of one fragment or two;
+ * one that is repeated is read as a single edge. A sheet has at most 2,048 bytes.
  *
  * A placing is n bytes, one for each node: of a root the leaf that it hangs under, and
  * BIXTOGAN_TOP of a root on top and of a node that is no root. Readings are placings, and so are
  * solved forms and configurations. Readings are numbered from 1.
  *
- * Every function returns BIXTOGAN_DONE, which is 0, or the number of a refusal, 1 to 11. Each
- * tests its own input, so any bytes may be handed in. A fault of the sheet (1 to 8) comes
- * first, the earliest in its bytes; a cycle of tree edges, 5 and 6 are looked for after the last
- * command. The other numbers come in the order in which the function lists them.
+ * Every function returns BIXTOGAN_DONE, which is 0, or the number of a refusal, 1 to 6 or 8 to 12.
+ * Each tests its own input, so any bytes may be handed in. The sheet's refusals (1 to 6, 8 and 12)
+ * come first: 12 before all others, then the fault that is the earliest in its bytes; a cycle of
+ * tree edges, 5 and 6 are looked for after the last command. The other numbers come in the order
+ * in which the function lists them.
  *
  * A refusal leaves all memory of the caller as it was, with one exception: where those
  * for readings and for a configuration answer that there is no reading (9), they write a cycle that
@@ -43,14 +45,14 @@ extern "C" {
 
 /* Limits. */
 #define BIXTOGAN_NODES_MAX 128           /* nodes of a sheet */
-#define BIXTOGAN_DOMINANCE_EDGES_MAX 255 /* dominance edges of a sheet */
-#define BIXTOGAN_SHEET_MAX 1149          /* no well-formed sheet has more bytes */
+#define BIXTOGAN_DOMINANCE_EDGES_MAX 255 /* different dominance edges of a sheet */
+#define BIXTOGAN_SHEET_MAX 2048          /* bytes of a sheet */
 #define BIXTOGAN_READINGS_MAX 65535      /* the highest exact count, and the highest number */
 
 /* Bytes that are enough for any sheet. */
 #define BIXTOGAN_PLACING_ROOM 256   /* a reading, a configuration, the cycle of 9 */
 #define BIXTOGAN_DRAWING_ROOM 1024  /* a drawing; no fewer are taken */
-#define BIXTOGAN_TIDY_ROOM 1149     /* a tidy sheet */
+#define BIXTOGAN_TIDY_ROOM 1149     /* a tidy sheet, which has each edge once */
 #define BIXTOGAN_FRAGMENTS_ROOM 192 /* a fragment table: 64 records of three bytes */
 
 /* In a placing: a root on top, or a node that is no root. */
@@ -68,8 +70,8 @@ extern "C" {
 #define BIXTOGAN_TREE 4     /* an edge from a node to itself, a second parent, or a cycle */
 #define BIXTOGAN_BARE 5     /* a node has no tree edge */
 #define BIXTOGAN_ENDS 6     /* a dominance edge does not go from a leaf to a root */
-#define BIXTOGAN_REPEATED 7 /* a dominance edge has stood before */
-#define BIXTOGAN_TOO_MANY 8 /* a dominance edge would be the 256th */
+#define BIXTOGAN_TOO_MANY 8 /* a dominance edge would be the 256th different one */
+#define BIXTOGAN_TOO_LONG 12 /* the sheet has more than 2,048 bytes */
 /* .. or that it has no solved form, and so no reading, .. */
 #define BIXTOGAN_NO_READING 9
 /* .. or that the call asks what cannot be. */
@@ -84,7 +86,7 @@ extern "C" {
 /*
  * How many readings the sheet has. *readings becomes 1 to 65,535, or BIXTOGAN_MORE.
  *
- * Refusals: 1 to 8, 9.
+ * Refusals: the sheet's, 9.
  */
 uint8_t bixtogan_count(const uint8_t *sheet, size_t sheet_length, uint64_t *readings);
 
@@ -99,7 +101,7 @@ uint8_t bixtogan_count(const uint8_t *sheet, size_t sheet_length, uint64_t *read
  * node, 2 for a tree edge and 3 for a dominance edge, the last leading to the first. It is a
  * simple hypernormal cycle, as bixtogan_check_cycle confirms. Otherwise *pairs stays as it was.
  *
- * Refusals: 1 to 8, 10, 9, 11. After any of them *place is what it was.
+ * Refusals: the sheet's, 10, 9, 11. After any of them *place is what it was.
  */
 uint8_t bixtogan_reading(const uint8_t *sheet, size_t sheet_length, uint64_t *place,
                          uint8_t *out, size_t out_length, uint64_t *pairs);
@@ -110,7 +112,7 @@ uint8_t bixtogan_reading(const uint8_t *sheet, size_t sheet_length, uint64_t *pl
  * that *place less what it was is how many they are, and a further call goes on from there. A buffer
  * of 65,535 times n bytes holds every list. out and pairs are otherwise as for bixtogan_reading.
  *
- * Refusals: 1 to 8, 10, 9, 11. After any of them *place is what it was.
+ * Refusals: the sheet's, 10, 9, 11. After any of them *place is what it was.
  */
 uint8_t bixtogan_readings(const uint8_t *sheet, size_t sheet_length, uint64_t *place,
                           uint8_t *out, size_t out_length, uint64_t *pairs);
@@ -119,7 +121,7 @@ uint8_t bixtogan_readings(const uint8_t *sheet, size_t sheet_length, uint64_t *p
  * A configuration, which is a solved form with no two roots under one leaf. It is made from
  * reading 1, and fills the first n bytes of out. out and pairs are as for bixtogan_reading.
  *
- * Refusals: 1 to 8, 10, 9.
+ * Refusals: the sheet's, 10, 9.
  */
 uint8_t bixtogan_configuration(const uint8_t *sheet, size_t sheet_length,
                                uint8_t *out, size_t out_length, uint64_t *pairs);
@@ -129,17 +131,17 @@ uint8_t bixtogan_configuration(const uint8_t *sheet, size_t sheet_length,
  * bytes of out, and *length becomes how many; no 0 byte is put after it. out has at least 1,024
  * bytes, however short the drawing is.
  *
- * Refusals: 1 to 8, 10, 9, 11.
+ * Refusals: the sheet's, 10, 9, 11.
  */
 uint8_t bixtogan_drawing(const uint8_t *sheet, size_t sheet_length, uint64_t number,
                          uint8_t *out, size_t out_length, uint64_t *length);
 
 /*
  * The tidy sheet of the same nodes and edges: tree edges by child, then dominance edges by leaf
- * and root. It fills the first bytes of out, and *length becomes how many. A tidy sheet is as long
- * as the sheet that it comes from, and out is at least as long.
+ * and root, each edge once. It fills the first bytes of out, and *length becomes how many. out has
+ * at least as many: the sheet's own length is enough, and so is BIXTOGAN_TIDY_ROOM.
  *
- * Refusals: 1 to 8, 10.
+ * Refusals: the sheet's, 10.
  */
 uint8_t bixtogan_tidy(const uint8_t *sheet, size_t sheet_length,
                       uint8_t *out, size_t out_length, uint64_t *length);
@@ -149,7 +151,7 @@ uint8_t bixtogan_tidy(const uint8_t *sheet, size_t sheet_length,
  * come by ascending root and fill the first bytes of out; *records becomes how many records
  * there are. out has at least three bytes for each fragment.
  *
- * Refusals: 1 to 8, 10.
+ * Refusals: the sheet's, 10.
  */
 uint8_t bixtogan_fragments(const uint8_t *sheet, size_t sheet_length,
                            uint8_t *out, size_t out_length, uint64_t *records);
@@ -159,7 +161,7 @@ uint8_t bixtogan_fragments(const uint8_t *sheet, size_t sheet_length,
  * with bixtogan_reading. *yes becomes 1 or 0. There is such a cycle exactly where there is no
  * reading. The bytes may come from anybody, and any length will do.
  *
- * Refusals: 1 to 8.
+ * Refusals: the sheet's.
  */
 uint8_t bixtogan_check_cycle(const uint8_t *sheet, size_t sheet_length,
                              const uint8_t *cycle, size_t cycle_length, uint8_t *yes);
@@ -169,7 +171,7 @@ uint8_t bixtogan_check_cycle(const uint8_t *sheet, size_t sheet_length,
  * BIXTOGAN_CONFIGURATION and BIXTOGAN_READING, each where they are one; bytes that are no
  * placing of the sheet get 0. placing has at least n bytes.
  *
- * Refusals: 1 to 8, 10.
+ * Refusals: the sheet's, 10.
  */
 uint8_t bixtogan_check_placing(const uint8_t *sheet, size_t sheet_length,
                                const uint8_t *placing, size_t placing_length, uint8_t *answers);

@@ -1,4 +1,4 @@
-//! The cases of document 01, the counts of Section 9, and the ways of this crate against each other.
+//! The cases of documents 01 and 02, the counts of Section 9, and the ways of this crate against each other.
 use crate::graph::{Edge, Graph};
 use crate::listing::{all, first, Leave};
 use crate::placing::{check, Answers, TOP};
@@ -50,7 +50,6 @@ fn refusals_within_a_command_come_in_order() {
     assert_eq!(read(&[1, 2, 2, 9, 9]), Err(3));
     assert_eq!(read(&[1, 2, 2, 1, 1]), Err(4));
     assert_eq!(read(&[1, 3, 2, 0, 1, 2, 2, 1]), Err(4));
-    assert_eq!(read(&[1, 2, 3, 1, 0, 3, 1, 0]), Err(7));
     assert_eq!(read(&[1, 2, 2, 0, 1, 0, 0]), Err(2));
 }
 
@@ -105,7 +104,28 @@ fn dominance_edges_up_to_255_pass() {
     assert_eq!(read(&write(128, &tree, &dominance[..256])), Err(8));
     let mut repeated = dominance[..255].to_vec();
     repeated.push(dominance[7]);
-    assert_eq!(read(&write(128, &tree, &repeated)), Err(7));
+    assert_eq!(read(&write(128, &tree, &repeated)).unwrap().dominance.len(), 255);
+    repeated.push(dominance[255]);
+    assert_eq!(read(&write(128, &tree, &repeated)), Err(8));
+}
+
+/// Document 02, One.
+#[test]
+fn the_same_edge_twice() {
+    let tree = [(0, 1), (2, 3)];
+    let times = |times| write(4, &tree, &vec![(1, 2); times]);
+    let once = read(&times(1)).unwrap();
+    assert_eq!(tidy(&once), times(1));
+    assert_eq!(lines(&once), [" 2:1"]);
+    for repeats in [2, 679] {
+        assert_eq!(read(&times(repeats)).as_ref(), Ok(&once));
+    }
+    assert_eq!((times(679).len(), times(680).len()), (2046, 2049));
+    assert_eq!(read(&times(680)), Err(12));
+    assert_eq!(read(&write(4, &tree, &[(0, 2), (0, 2)])), Err(6));
+    assert_eq!(read(&write(4, &[(0, 1), (0, 1), (2, 3)], &[(1, 2)])), Err(4));
+    assert_eq!(read(&[0; 2048]), Err(2));
+    assert_eq!(read(&[0; 2049]), Err(12));
 }
 
 #[test]

@@ -19,7 +19,7 @@ pub mod sheets;
 #[cfg(test)]
 mod cases;
 
-/// A refusal's number, 1 to 11.
+/// A refusal's number, 1 to 6 or 8 to 12.
 pub type Refused = u8;
 
 /// The last number that a reading is asked for by, and the largest exact count.

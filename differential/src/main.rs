@@ -1,4 +1,4 @@
-//! Holds every call of the library against this package's own implementation of document 01, on random sheets.
+//! Holds every call of the library against this package's own implementation of documents 01 and 02, on random sheets.
 mod harness;
 
 use differential::random::Random;

@@ -1,18 +1,22 @@
-//! Sheets: reading them with refusals 1 to 8, writing them, the tidy form, the table of fragments.
+//! Sheets: reading them with their refusals, writing them, the tidy form, the table of fragments.
 use crate::graph::{Edge, Graph, Node, NODES};
 use crate::Refused;
+use std::collections::BTreeSet;
 
 const END: u8 = 0;
 const COUNT: u8 = 1;
 const TREE: u8 = 2;
-const DOMINANCE: u8 = 3;
+pub const DOMINANCE: u8 = 3;
 
 const MOST_DOMINANCE: usize = 255;
+
+/// The most bytes of a sheet (document 02, One).
+pub const LONGEST: usize = 2048;
 
 /// What is known after some commands.
 struct Commands {
     parent: Vec<Option<Node>>,
-    dominance: Vec<Edge>,
+    dominance: BTreeSet<Edge>,
 }
 
 /// The next byte, or 1.
@@ -41,14 +45,12 @@ impl Commands {
         Ok(())
     }
 
+    /// 8 counts different edges; a repeat is read as a single edge.
     fn add_dominance(&mut self, edge: Edge) -> Result<(), Refused> {
-        if self.dominance.contains(&edge) {
-            return Err(7);
-        }
-        if self.dominance.len() == MOST_DOMINANCE {
+        self.dominance.insert(edge);
+        if self.dominance.len() > MOST_DOMINANCE {
             return Err(8);
         }
-        self.dominance.push(edge);
         Ok(())
     }
 
@@ -65,12 +67,11 @@ impl Commands {
     }
 
     /// The tests of the whole, in the document's order.
-    fn graph(mut self) -> Result<Graph, Refused> {
+    fn graph(self) -> Result<Graph, Refused> {
         if (0..self.parent.len()).any(|node| self.rises_forever(node)) {
             return Err(4);
         }
-        self.dominance.sort_unstable();
-        let graph = Graph { parent: self.parent, dominance: self.dominance };
+        let graph = Graph { parent: self.parent, dominance: self.dominance.into_iter().collect() };
         if (0..graph.nodes()).any(|node| graph.is_root(node) && graph.is_leaf(node)) {
             return Err(5);
         }
@@ -81,8 +82,11 @@ impl Commands {
     }
 }
 
-/// The graph of a well-formed sheet; else its refusal, 1 to 8.
+/// The graph of a well-formed sheet; else its refusal, 12 before the others.
 pub fn read(bytes: &[u8]) -> Result<Graph, Refused> {
+    if bytes.len() > LONGEST {
+        return Err(12);
+    }
     let mut rest = bytes;
     if byte(&mut rest)? != COUNT {
         return Err(2);
@@ -91,7 +95,7 @@ pub fn read(bytes: &[u8]) -> Result<Graph, Refused> {
     if !(2..=NODES).contains(&nodes) {
         return Err(3);
     }
-    let mut commands = Commands { parent: vec![None; nodes], dominance: Vec::new() };
+    let mut commands = Commands { parent: vec![None; nodes], dominance: BTreeSet::new() };
     loop {
         match byte(&mut rest)? {
             END if rest.is_empty() => return commands.graph(),

@@ -50,6 +50,18 @@ pub fn shuffled(random: &mut Random, graph: &Graph) -> Graph {
     renumbered(graph, &names)
 }
 
+/// The same sheet with so many of its dominance edges' commands once more, anywhere.
+pub fn repeating(random: &mut Random, bytes: &[u8], times: usize) -> Vec<u8> {
+    let mut commands: Vec<&[u8]> = bytes[2..].chunks_exact(3).collect();
+    let edges: Vec<&[u8]> = commands.iter().copied().filter(|command| command[0] == sheet::DOMINANCE).collect();
+    if !edges.is_empty() {
+        for _ in 0..times {
+            commands.insert(random.below(commands.len() + 1), random.pick(&edges));
+        }
+    }
+    [&bytes[..2], &commands.concat(), &bytes[bytes.len() - 1..]].concat()
+}
+
 /// The sheet of a graph, its commands in random order.
 pub fn untidy(random: &mut Random, graph: &Graph) -> Vec<u8> {
     let mut bytes = sheet::tidy(graph);

@@ -1,5 +1,5 @@
 //! The program `readings` from its input to what it writes, held against the second implementation: document 01's "The printed
-//! list". `rt check readings` makes the program.
+//! list", with what document 02, One, says of repeats and of long inputs. `rt check readings` makes the program.
 use differential::listing::{self, Leave};
 use differential::placing::hung;
 use differential::random::Random;
@@ -12,12 +12,16 @@ use std::path::PathBuf;
 use std::process::{Child, Command, Stdio};
 use std::time::Duration;
 
+/// The program, started.
+fn spawn(out: Stdio) -> Child {
+    let program = PathBuf::from(env!("CARGO_MANIFEST_DIR")).join("../target/bin/readings");
+    Command::new(&program).stdin(Stdio::piped()).stdout(out).spawn().expect("rt check readings makes it")
+}
+
 /// The program, started on this input.
 fn start(input: &[u8], out: Stdio) -> Child {
-    let program = PathBuf::from(env!("CARGO_MANIFEST_DIR")).join("../target/bin/readings");
-    let mut child =
-        Command::new(&program).stdin(Stdio::piped()).stdout(out).spawn().expect("rt check readings makes it");
-    // The program reads no more than counts.
+    let mut child = spawn(out);
+    // The program reads no more than tells.
     let _ = child.stdin.take().unwrap().write_all(input);
     child
 }
@@ -44,10 +48,9 @@ fn pages(input: &[u8]) -> Vec<String> {
     }
 }
 
-/// What document 01 says that it writes.
+/// What the documents say that it writes.
 fn printed(input: &[u8]) -> String {
-    let judged = &input[..input.len().min(2048)];
-    let graph = match sheet::read(judged) {
+    let graph = match sheet::read(input) {
         Ok(graph) => graph,
         Err(number) => return format!("refused {number}\n"),
     };
@@ -104,10 +107,17 @@ fn each_refusal() {
     agree(&[1, 2, 2, 0, 0, 0], "refused 4\n");
     agree(&[1, 2, 0], "refused 5\n");
     agree(&pairs(2, &[(0, 2)]), "refused 6\n");
-    agree(&pairs(2, &[(1, 2), (1, 2)]), "refused 7\n");
     let many: Vec<_> = (0..16).flat_map(|leaf| (16..32).map(move |root| (2 * leaf + 1, 2 * root))).collect();
     agree(&pairs(32, &many), "refused 8\n");
     agree(&pairs(1, &[(1, 0)]), "refused 9\n");
+    agree(&[0; 5000], "refused 12\n");
+}
+
+#[test]
+fn the_same_edge_twice() {
+    agree(&pairs(2, &[(1, 2), (1, 2)]), "readings 1\n1 2:1\n");
+    agree(&pairs(2, &[(0, 2), (0, 2)]), "refused 6\n");
+    agree(&sheet::write(4, &[(0, 1), (0, 1), (2, 3)], &[(1, 2)]), "refused 4\n");
 }
 
 /// Line 1, and then one page of lines, two of them, or three.
@@ -138,26 +148,34 @@ fn more_than_there_are_numbers() {
     agree(&pairs(10, &above), "readings more than 65535\n1 ");
 }
 
-/// No input is longer whose last byte makes a difference: 127 tree edges, and then the 256th dominance edge. The whole of it is read.
-#[test]
-fn the_last_byte_that_counts() {
-    let tree: Vec<_> = (1..128).map(|child| (0, child)).collect();
-    let dominance: Vec<_> = (0..2).flat_map(|leaf| (0..128).map(move |root| (leaf, root))).collect();
-    let input = sheet::write(128, &tree, &dominance);
-    agree(&input[..1151], "refused 8\n");
-    agree(&input[..1150], "refused 1\n");
-}
-
-/// What stands after 2,048 bytes does not count, and what stands before it does.
+/// 2,049 bytes tell: a sheet as long as may be, the same with bytes after it, and one that is too long, whole or cut.
 #[test]
 fn inputs_of_2048_bytes_and_more() {
-    let mut long = pairs(64, &(0..255).map(|i| (2 * (i % 16) + 1, 2 * (16 + i / 16))).collect::<Vec<_>>());
-    agree(&long, "readings more than 65535\n1 ");
-    for length in [2047, 2048, 2049, 100_000] {
+    let mut long = pairs(2, &[(1, 2); 679]);
+    agree(&long, "readings 1\n1 2:1\n");
+    for length in [2047, 2048] {
         long.resize(length, 0);
         agree(&long, "refused 2\n");
-        agree(&vec![0; length], "refused 2\n");
     }
+    let longer = pairs(2, &[(1, 2); 680]);
+    agree(&longer[..2048], "refused 1\n");
+    agree(&longer, "refused 12\n");
+    for length in [2049, 2050, 100_000] {
+        long.resize(length, 0);
+        agree(&long, "refused 12\n");
+        agree(&vec![0; length], "refused 12\n");
+    }
+    agree(&[0; 2048], "refused 2\n");
+}
+
+/// The program answers, and is gone before it was given all of this.
+#[test]
+fn an_input_without_end() {
+    let mut child = spawn(Stdio::piped());
+    let mut input = child.stdin.take().unwrap();
+    let taken = (0..1000).take_while(|_| input.write_all(&[0; 65536]).is_ok()).count();
+    assert!(taken < 1000, "{taken} times 65,536 bytes were taken");
+    assert_eq!(child.wait_with_output().unwrap().stdout, b"refused 12\n");
 }
 
 #[test]

@@ -122,6 +122,21 @@ static size_t chain_of(int k, uint8_t *sheet)
     return at;
 }
 
+/* Two fragments of two nodes, and the dominance edge from 1 to 2 so many times. */
+static size_t with_repeats(int times, uint8_t *sheet)
+{
+    size_t at = 2;
+
+    sheet[0] = 1;
+    sheet[1] = 4;
+    at = put(sheet, at, 2, 0, 1);
+    at = put(sheet, at, 2, 2, 3);
+    while (times-- > 0)
+        at = put(sheet, at, 3, 1, 2);
+    sheet[at++] = 0;
+    return at;
+}
+
 /* 32 fragments of two nodes, and so many dominance edges, at most 256. */
 static size_t with_edges(int edges, uint8_t *sheet)
 {
@@ -295,6 +310,46 @@ static void tidied(void)
            "tidying 255 dominance edges");
 }
 
+/* A dominance edge that is repeated is one edge. */
+static void repeats(void)
+{
+    static const uint8_t reading[4] = {TOP, TOP, 1, TOP};
+    static const int times[] = {1, 2, 679};
+    uint8_t once[12], tidy[BIXTOGAN_TIDY_ROOM], sheet[BIXTOGAN_SHEET_MAX];
+    uint64_t place;
+    size_t i, length;
+
+    with_repeats(1, once);
+    for (i = 0; i < LENGTH(times); i++) {
+        length = with_repeats(times[i], sheet);
+        lend();
+        expect(bixtogan_count(sheet, length, &value) == BIXTOGAN_DONE && value == 1,
+               "the count with repeats");
+        lend();
+        place = 0;
+        expect(bixtogan_reading(sheet, length, &place, out, 8, &value) == BIXTOGAN_DONE
+                   && place == 1 && wrote(reading, 4),
+               "the reading with repeats");
+        lend();
+        expect(bixtogan_tidy(sheet, length, out, 12, &value) == BIXTOGAN_DONE && value == 12
+                   && wrote(once, 12),
+               "tidying repeats");
+        lend();
+        expect(bixtogan_tidy(sheet, length, out, 11, &value) == BIXTOGAN_SMALL_BUFFER
+                   && wrote_nothing(),
+               "tidying repeats into a small buffer");
+    }
+    expect(length == 2046, "as many repeats as a sheet may have");
+    length = with_edges(255, tidy);
+    with_edges(255, sheet);
+    i = put(sheet, length - 1, 3, 1, 0);
+    sheet[i++] = 0;
+    lend();
+    expect(bixtogan_tidy(sheet, i, out, length, &value) == BIXTOGAN_DONE && value == length
+               && wrote(tidy, length),
+           "tidying 255 dominance edges and a repeat");
+}
+
 static void tables(void)
 {
     static const uint8_t records[15] = {0, 1, 2, 3, 4, 2, 6, 7, 1, 8, 9, 1, 10, 11, 1};
@@ -395,14 +450,24 @@ static void refusals(void)
         {"tree edges in a cycle", BIXTOGAN_TREE, 9, {1, 2, 2, 0, 1, 2, 1, 0, 0}},
         {"nodes without a tree edge", BIXTOGAN_BARE, 3, {1, 2, 0}},
         {"a dominance edge from a root", BIXTOGAN_ENDS, 9, {1, 2, 2, 0, 1, 3, 0, 0, 0}},
-        {"a dominance edge twice", BIXTOGAN_REPEATED, 12, {1, 2, 2, 0, 1, 3, 1, 0, 3, 1, 0, 0}},
+        {"a tree edge twice", BIXTOGAN_TREE, 12, {1, 4, 2, 0, 1, 2, 0, 1, 2, 2, 3, 0}},
+        {"a dominance edge from a root twice", BIXTOGAN_ENDS, 15,
+         {1, 4, 2, 0, 1, 2, 2, 3, 3, 0, 2, 3, 0, 2, 0}},
     };
-    uint8_t sheet[BIXTOGAN_SHEET_MAX];
+    static const uint8_t zeros[BIXTOGAN_SHEET_MAX + 1];
+    uint8_t sheet[BIXTOGAN_SHEET_MAX + 1];
     size_t i;
 
     for (i = 0; i < LENGTH(cases); i++)
         refused_by_all(cases[i].sheet, cases[i].length, cases[i].number, cases[i].what);
     refused_by_all(sheet, with_edges(256, sheet), BIXTOGAN_TOO_MANY, "256 dominance edges");
+    i = put(sheet, with_edges(255, sheet) - 1, 3, 1, 0);
+    i = put(sheet, i, 3, 31, 30);
+    sheet[i++] = 0;
+    refused_by_all(sheet, i, BIXTOGAN_TOO_MANY, "the 256th dominance edge after a repeat");
+    refused_by_all(zeros, BIXTOGAN_SHEET_MAX, BIXTOGAN_COMMAND, "2,048 zeros");
+    refused_by_all(zeros, BIXTOGAN_SHEET_MAX + 1, BIXTOGAN_TOO_LONG, "2,049 zeros");
+    refused_by_all(sheet, with_repeats(680, sheet), BIXTOGAN_TOO_LONG, "2,049 bytes of repeats");
 }
 
 int main(void)
@@ -413,6 +478,7 @@ int main(void)
     configurations();
     drawings();
     tidied();
+    repeats();
     tables();
     cycles();
     placings();

@@ -31,6 +31,9 @@ use std::fmt;
 /// The most nodes that a sheet has.
 pub const NODES: usize = 128;
 
+/// The most bytes that a sheet has.
+pub const LONGEST: usize = 2048;
+
 /// The last number that a reading is asked for by, and the largest exact count.
 pub const LAST: u64 = 65_535;
 
@@ -56,16 +59,16 @@ pub enum Refusal {
     Bare,
     /// 6: a dominance edge doesn't go from a leaf to a root.
     Ends,
-    /// 7: the dominance edge has stood before.
-    Repeated,
-    /// 8: it would be the 256th dominance edge.
-    TooMany,
+    /// 8: it would be the 256th different dominance edge.
+    TooMany = 8,
     /// 9: no solved form exists.
     NoReading,
     /// 10: a lent buffer is too small.
     SmallBuffer,
     /// 11: the reading wanted has number 0, or lies beyond the count or beyond 65,535.
     NoSuchReading,
+    /// 12: the sheet has more than 2,048 bytes.
+    TooLong,
 }
 
 impl Refusal {
@@ -76,14 +79,14 @@ impl Refusal {
         Refusal::Tree,
         Refusal::Bare,
         Refusal::Ends,
-        Refusal::Repeated,
         Refusal::TooMany,
         Refusal::NoReading,
         Refusal::SmallBuffer,
         Refusal::NoSuchReading,
+        Refusal::TooLong,
     ];
 
-    /// Its number, 1 to 11.
+    /// Its number, 1 to 6 or 8 to 12.
     ///
     /// ```
     /// assert_eq!(bixtogan::count(&[5]).unwrap_err().number(), 2);
@@ -92,9 +95,17 @@ impl Refusal {
         self as u8
     }
 
-    /// The refusal with a number.
+    /// The refusal with a number. None has the number 7.
+    ///
+    /// ```
+    /// use bixtogan::Refusal;
+    ///
+    /// assert_eq!(Refusal::of_number(12), Some(Refusal::TooLong));
+    /// let numbers: Vec<u8> = (0..=255).filter(|&number| Refusal::of_number(number).is_some()).collect();
+    /// assert_eq!(numbers, [1, 2, 3, 4, 5, 6, 8, 9, 10, 11, 12]);
+    /// ```
     pub fn of_number(number: u8) -> Option<Refusal> {
-        Refusal::ALL.get(usize::from(number).wrapping_sub(1)).copied()
+        Refusal::ALL.into_iter().find(|why| why.number() == number)
     }
 }
 
@@ -166,19 +177,19 @@ pub struct Fragment {
     pub leaves: u8,
 }
 
+/// What a call answers: 0, or the number of a refusal, and no other.
 fn answered<T>(number: u8, value: T) -> Result<T, Refusal> {
-    match Refusal::of_number(number) {
-        None => Ok(value),
-        Some(why) => Err(why),
+    match number {
+        0 => Ok(value),
+        _ => Err(Refusal::of_number(number).expect("the number of a refusal")),
     }
 }
 
 fn placed(number: u8, pairs: u64) -> Result<(), Unplaced> {
-    match Refusal::of_number(number) {
-        None => Ok(()),
-        Some(Refusal::NoReading) => Err(Unplaced::Cycle(pairs as usize)),
-        Some(why) => Err(Unplaced::Refused(why)),
-    }
+    answered(number, ()).map_err(|why| match why {
+        Refusal::NoReading => Unplaced::Cycle(pairs as usize),
+        why => Unplaced::Refused(why),
+    })
 }
 
 /// How many readings the sheet has.
@@ -273,13 +284,19 @@ pub fn drawing(sheet: &[u8], number: u64, out: &mut [u8]) -> Result<usize, Refus
     answered(refused, length as usize)
 }
 
-/// Writes the tidy sheet: tree edges by child, then dominance edges by leaf and root; its length.
+/// Writes the tidy sheet: tree edges by child, then dominance edges by leaf and root, each edge once; its length.
 ///
 /// ```
 /// let mut out = [0; 9];
 /// let sheet = [1, 3, 2, 0, 2, 2, 0, 1, 0];
 /// assert_eq!(bixtogan::tidy(&sheet, &mut out), Ok(9));
 /// assert_eq!(out, [1, 3, 2, 0, 1, 2, 0, 2, 0]);
+///
+/// // A dominance edge that is repeated is one edge.
+/// let mut out = [0; 12];
+/// let sheet = [1, 4, 2, 0, 1, 2, 2, 3, 3, 1, 2, 3, 1, 2, 0];
+/// assert_eq!(bixtogan::tidy(&sheet, &mut out), Ok(12));
+/// assert_eq!(out, [1, 4, 2, 0, 1, 2, 2, 3, 3, 1, 2, 0]);
 /// ```
 pub fn tidy(sheet: &[u8], out: &mut [u8]) -> Result<usize, Refusal> {
     let (number, length) = library::tidy(sheet, out);

@@ -20,7 +20,7 @@ use Rattle.graph.specs.Placing.{at}
 use Rattle.format.specs.Refusal.{number}
 use Rattle.format.specs.Text.{decimal, line, readings-word, more-than-words, refused-word, countLine, readingLine, refusedLine}
 use Rattle.format.specs.declared.Refusal.{Refusal}
-use Rattle.format.specs.declared.Refusal.the-variants.{Missing, Command, Range, Tree, Bare, Ends, Repeated, TooMany, NoReading, SmallBuffer, NoSuchReading}
+use Rattle.format.specs.declared.Refusal.the-variants.{Missing, Command, Range, Tree, Bare, Ends, TooMany, NoReading, SmallBuffer, NoSuchReading, TooLong}
 use Rattle.graph.specs.declared.Count.{Count}
 use Rattle.graph.specs.declared.Count.the-variants.{Exactly, More}
 use Rattle.base_text.specs.Lines.{pair, hungAt, hungIn, lineIn, hexBytes, hexLine}
@@ -41,11 +41,11 @@ refusal-number Range = omega arith
 refusal-number Tree = omega arith
 refusal-number Bare = omega arith
 refusal-number Ends = omega arith
-refusal-number Repeated = omega arith
 refusal-number TooMany = omega arith
 refusal-number NoReading = omega arith
 refusal-number SmallBuffer = omega arith
 refusal-number NoSuchReading = omega arith
+refusal-number TooLong = omega arith
 
 pub refused-is : (why : Refusal) (k : ℕ) → k ≡ number why → refusedLine why ≡ line (refused-word ++ decimal k)
 unfolding refusedLine

@@ -1,4 +1,4 @@
--- What each call answers and leaves in the lent bytes, for any bytes handed in as the sheet: its refusals, 1 to 8, come first,
+-- What each call answers and leaves in the lent bytes, for any bytes handed in as the sheet: its own refusals come first,
 -- and then what solve_answer: Calls says of the graph that it spells. But for the choice of a cycle this fixes answer, place and
 -- bytes.
 use Prim.Native.Nat.{ℕ}

@@ -1,5 +1,5 @@
 -- The number that each call gives: "A number is given where its condition is the first to hold, and nowhere else." The sheet's own
--- refusals, 1 to 8, come first. Of a well-formed sheet the conditions of 10, 9 and 11 stand here in their order; the number is 0
+-- refusals come first. Of a well-formed sheet the conditions of 10, 9 and 11 stand here in their order; the number is 0
 -- where none of them holds.
 use Prim.Native.Nat.{ℕ, _+_, _*_, _<_}
 use mathlib.Core.Path.{_≡_}

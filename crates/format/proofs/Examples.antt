@@ -1,14 +1,16 @@
--- Small facts that hold the definitions to document 01's own examples: the drawing and the line of the chain's reading 1, the
--- order of refusals, a tidy sheet.
+-- Small facts that hold the definitions to document 01's own examples and 02's: the drawing and the line of the chain's reading 1,
+-- the order of refusals, a tidy sheet, an edge that is repeated, the longest sheet.
+use Prim.Native.Nat.{suc}
 use mathlib.Core.Path.{_≡_, refl}
 use mathlib.Core.List.{[], _∷_}
+use lib.ListN.{replicate}
 use Rattle.base_finite.specs.Below.{any, spread, select}
-use Rattle.graph.specs.Graph.{among, entered, left, root, leaf, parent, top, own, leafOf, rises, cyclic}
-use Rattle.format.specs.Sheet.{refused, bare, astray, whole, takesTwo, beyond, commands, outcome, tidyTree, tidyDominance, tidy}
+use Rattle.graph.specs.Graph.{Graph, among, different, entered, left, root, leaf, parent, top, own, leafOf, rises, cyclic}
+use Rattle.format.specs.Sheet.{refused, accepted, bare, astray, whole, takesTwo, beyond, commands, allCommands, longest, outcome, tidyTree, tidyDominance, tidy}
 use Rattle.graph.specs.Placing.{hangs}
 use Rattle.format.specs.Text.{digits, decimal, readingLine}
 use Rattle.format.specs.Drawing.{separated, leafText, fragmentText, drawing}
-use Rattle.format.specs.declared.Refusal.the-variants.{Missing, Command, Range, Tree, Bare, Ends, Repeated}
+use Rattle.format.specs.declared.Refusal.the-variants.{Missing, Command, Range, Tree, Bare, Ends, TooLong}
 use Rattle.graph.proofs.Examples.{chain, chain-first}
 
 -- "Reading 1 is drawn 0(1[6(7)],2[3(4[8(9)],5[10(11)])])."
@@ -24,45 +26,79 @@ first-line : readingLine chain 1 chain-first
 unfolding chain chain-first readingLine decimal digits root entered spread
 first-line = refl
 
--- The order of refusals: operands are missed before they are out of range; a repeat is told before the bounds of a whole sheet.
+-- The order of refusals: operands are missed before they are out of range.
 nothing : outcome [] ≡ refused Missing
-unfolding outcome
+unfolding outcome allCommands
 nothing = refl
 
 unknown-first : outcome (5 ∷ []) ≡ refused Command
-unfolding outcome
+unfolding outcome allCommands
 unknown-first = refl
 
 too-many-nodes : outcome (1 ∷ 129 ∷ []) ≡ refused Range
-unfolding outcome
+unfolding outcome allCommands
 too-many-nodes = refl
 
 most-nodes : outcome (1 ∷ 128 ∷ []) ≡ refused Missing
-unfolding outcome commands
+unfolding outcome allCommands commands
 most-nodes = refl
 
 bare-nodes : outcome (1 ∷ 2 ∷ 0 ∷ []) ≡ refused Bare
-unfolding outcome commands takesTwo whole cyclic rises bare astray entered left any
+unfolding outcome allCommands commands takesTwo whole cyclic rises bare astray entered left any
 bare-nodes = refl
 
 operand-missing-first : outcome (1 ∷ 2 ∷ 2 ∷ 9 ∷ []) ≡ refused Missing
-unfolding outcome commands takesTwo
+unfolding outcome allCommands commands takesTwo
 operand-missing-first = refl
 
 tree-loop-before-bare : outcome (1 ∷ 3 ∷ 2 ∷ 0 ∷ 1 ∷ 2 ∷ 1 ∷ 0 ∷ 0 ∷ []) ≡ refused Tree
-unfolding outcome commands takesTwo beyond whole cyclic rises bare astray entered left parent any
+unfolding outcome allCommands commands takesTwo beyond whole cyclic rises bare astray entered left parent any
 tree-loop-before-bare = refl
 
 astray-edge : outcome (1 ∷ 2 ∷ 2 ∷ 0 ∷ 1 ∷ 3 ∷ 0 ∷ 0 ∷ 0 ∷ []) ≡ refused Ends
-unfolding outcome commands takesTwo beyond whole cyclic rises bare astray among entered left parent root leaf any
+unfolding outcome allCommands commands takesTwo beyond whole cyclic rises bare astray among different entered left parent root leaf any
 astray-edge = refl
-
-repeat-before-astray : outcome (1 ∷ 2 ∷ 2 ∷ 0 ∷ 1 ∷ 3 ∷ 0 ∷ 0 ∷ 3 ∷ 0 ∷ 0 ∷ 0 ∷ []) ≡ refused Repeated
-unfolding outcome commands takesTwo beyond whole cyclic rises bare astray among entered left parent root leaf any
-repeat-before-astray = refl
 
 -- the tidy sheet of the chain's first fragment, whatever the order of its commands
 tidied : tidy (record { nodes = 3; tree = (0, 2) ∷ (0, 1) ∷ []; dominance = (2, 0) ∷ (1, 0) ∷ [] })
     ≡ 1 ∷ 3 ∷ 2 ∷ 0 ∷ 1 ∷ 2 ∷ 0 ∷ 2 ∷ 3 ∷ 1 ∷ 0 ∷ 3 ∷ 2 ∷ 0 ∷ 0 ∷ []
 unfolding tidy tidyTree tidyDominance among spread
 tidied = refl
+
+-- 02, One: four nodes, 0-1, 2-3, with 1-2 twice; the edge is read as one, and the tidy sheet has it once
+one-edge : Graph
+one-edge = record { nodes = 4; tree = (2, 3) ∷ (0, 1) ∷ []; dominance = (1, 2) ∷ [] }
+
+read-once : outcome (1 ∷ 4 ∷ 2 ∷ 0 ∷ 1 ∷ 2 ∷ 2 ∷ 3 ∷ 3 ∷ 1 ∷ 2 ∷ 3 ∷ 1 ∷ 2 ∷ 0 ∷ []) ≡ accepted one-edge
+unfolding one-edge outcome allCommands commands takesTwo beyond whole cyclic rises bare astray among different entered left parent root leaf any
+read-once = refl
+
+-- the other edges stay
+two-edges : Graph
+two-edges = record { nodes = 4; tree = (2, 3) ∷ (0, 1) ∷ []; dominance = (1, 2) ∷ (3, 0) ∷ [] }
+
+others-kept : outcome (1 ∷ 4 ∷ 2 ∷ 0 ∷ 1 ∷ 2 ∷ 2 ∷ 3 ∷ 3 ∷ 3 ∷ 0 ∷ 3 ∷ 1 ∷ 2 ∷ 3 ∷ 3 ∷ 0 ∷ 0 ∷ []) ≡ accepted two-edges
+unfolding two-edges outcome allCommands commands takesTwo beyond whole cyclic rises bare astray among different entered left parent root leaf any
+others-kept = refl
+
+tidied-once : tidy one-edge ≡ 1 ∷ 4 ∷ 2 ∷ 0 ∷ 1 ∷ 2 ∷ 2 ∷ 3 ∷ 3 ∷ 1 ∷ 2 ∷ 0 ∷ []
+unfolding one-edge tidy tidyTree tidyDominance among spread
+tidied-once = refl
+
+-- a tree edge twice is 4, and a repeat of an edge that is astray is 6
+tree-edge-twice : outcome (1 ∷ 4 ∷ 2 ∷ 0 ∷ 1 ∷ 2 ∷ 0 ∷ 1 ∷ 2 ∷ 2 ∷ 3 ∷ 0 ∷ []) ≡ refused Tree
+unfolding outcome allCommands commands takesTwo beyond entered
+tree-edge-twice = refl
+
+astray-twice : outcome (1 ∷ 4 ∷ 2 ∷ 0 ∷ 1 ∷ 2 ∷ 2 ∷ 3 ∷ 3 ∷ 0 ∷ 2 ∷ 3 ∷ 0 ∷ 2 ∷ 0 ∷ []) ≡ refused Ends
+unfolding outcome allCommands commands takesTwo beyond whole cyclic rises bare astray among different entered left parent root leaf any
+astray-twice = refl
+
+-- 2,048 zeros are 2, and one more is 12
+zeros-read : outcome (replicate longest 0) ≡ refused Command
+unfolding outcome allCommands
+zeros-read = refl
+
+zeros-too-long : outcome (replicate (suc longest) 0) ≡ refused TooLong
+unfolding outcome
+zeros-too-long = refl

@@ -1,7 +1,7 @@
--- The numbers of the refusals (document 01, "Who can cause which refusal").
+-- The numbers of the refusals (document 01, "Who can cause which refusal"; document 02, One: "Refusal 7 then no longer occurs").
 use Prim.Native.Nat.{ℕ}
 use Rattle.format.specs.declared.Refusal.{Refusal}
-use Rattle.format.specs.declared.Refusal.the-variants.{Missing, Command, Range, Tree, Bare, Ends, Repeated, TooMany, NoReading, SmallBuffer, NoSuchReading}
+use Rattle.format.specs.declared.Refusal.the-variants.{Missing, Command, Range, Tree, Bare, Ends, TooMany, NoReading, SmallBuffer, NoSuchReading, TooLong}
 
 abbrev pub number : Refusal → ℕ
 -- a needed byte is missing
@@ -16,9 +16,7 @@ number Tree = 4
 number Bare = 5
 -- a dominance edge doesn't go from a leaf to a root
 number Ends = 6
--- the dominance edge has stood before
-number Repeated = 7
--- it would be the 256th
+-- the dominance edge would be the 256th different one
 number TooMany = 8
 -- no solved form exists
 number NoReading = 9
@@ -26,3 +24,5 @@ number NoReading = 9
 number SmallBuffer = 10
 -- the reading wanted has number 0 or lies beyond the count or beyond 65,535
 number NoSuchReading = 11
+-- the sheet has more than 2,048 bytes
+number TooLong = 12

@@ -1,14 +1,15 @@
 -- The sheet: how its bytes spell a graph, which refusal is the first to hold, and the tidy sheet (document 01, "The
--- sheet" and "Who can cause which refusal").
-use Prim.Native.Nat.{ℕ}
+-- sheet" and "Who can cause which refusal"; document 02, One).
+use Prim.Native.Nat.{ℕ, _≤_}
+use mathlib.Core.Path.{_≡_}
 use mathlib.Core.List.{List, [], _∷_, _++_}
 use mathlib.Core.Bool.{Bool, cond, not, _&&_, _||_}
-use lib.Dec.{eqb, leb}
+use lib.Dec.{eqb, leb, ltb}
 use lib.ListN.{length}
 use Rattle.base_finite.specs.Below.{any, spread}
-use Rattle.graph.specs.Graph.{Edge, Graph, among, entered, left, root, leaf, cyclic}
+use Rattle.graph.specs.Graph.{Edge, Graph, among, different, entered, left, root, leaf, cyclic, WellFormed}
 use Rattle.format.specs.declared.Refusal.{Refusal}
-use Rattle.format.specs.declared.Refusal.the-variants.{Missing, Command, Range, Tree, Bare, Ends, Repeated, TooMany}
+use Rattle.format.specs.declared.Refusal.the-variants.{Missing, Command, Range, Tree, Bare, Ends, TooMany, TooLong}
 
 -- What the bytes of a sheet come to.
 pub data Outcome : Type 0 where
@@ -36,7 +37,8 @@ unfoldable pub beyond : ℕ → ℕ → ℕ → Bool
 beyond n x y = leb n x || leb n y
 
 -- The commands after the first, with n nodes, the tree edges t and the dominance edges d read so far (the latest first).
--- "Within a command: 1 for the command byte, 2, 1 for operands, 3, then 4, or 7 before 8."
+-- "Within a command: 1 for the command byte, 2, 1 for operands, 3, then 4", or 8. 02, One: "a repeat is to be read as a single
+-- edge", and "8 counts different edges".
 unfoldable pub commands : ℕ → List Edge → List Edge → List ℕ → Outcome
 commands n t d [] = refused Missing
 commands n t d (b ∷ []) = cond (eqb b 0) (whole (record { nodes = n; tree = t; dominance = d })) (refused (cond (takesTwo b) Missing Command))
@@ -52,17 +54,25 @@ commands n t d (b ∷ x ∷ y ∷ rest) =
     (cond (beyond n x y)
     (refused Range)
     (cond (among d x y)
-    (refused Repeated)
-    (cond (leb 255 (length d))
+    (commands n t d rest)
+    (cond (leb 255 (different d))
     (refused TooMany)
     (commands n t ((x, y) ∷ d) rest))))
     (refused Command))
 
 -- "0x01 n: there are n nodes, 2 to 128, numbered from 0. First command, once."
+unfoldable pub allCommands : List ℕ → Outcome
+allCommands [] = refused Missing
+allCommands (b ∷ []) = refused (cond (eqb b 1) Missing Command)
+allCommands (b ∷ n ∷ rest) = cond (eqb b 1) (cond (leb 2 n && leb n 128) (commands n [] [] rest) (refused Range)) (refused Command)
+
+-- the most bytes of a sheet
+abbrev pub longest : ℕ
+longest = 2048
+
+-- 02, One: "12 for more than 2,048 bytes, before every other check"
 unfoldable pub outcome : List ℕ → Outcome
-outcome [] = refused Missing
-outcome (b ∷ []) = refused (cond (eqb b 1) Missing Command)
-outcome (b ∷ n ∷ rest) = cond (eqb b 1) (cond (leb 2 n && leb n 128) (commands n [] [] rest) (refused Range)) (refused Command)
+outcome bs = cond (ltb longest (length bs)) (refused TooLong) (allCommands bs)
 
 -- A command that gives an edge.
 pub data EdgeCommand : Type 0 where
@@ -77,7 +87,7 @@ spelt [] = 0 ∷ []
 spelt (tree-edge p c ∷ cs) = 2 ∷ p ∷ c ∷ spelt cs
 spelt (dominance-edge l r ∷ cs) = 3 ∷ l ∷ r ∷ spelt cs
 
--- the edges that the commands write, on top of t and d
+-- the edges that the commands write, on top of t and d; one that is written twice is in the list twice
 unfoldable pub written : ℕ → List Edge → List Edge → List EdgeCommand → Graph
 written n t d [] = record { nodes = n; tree = t; dominance = d }
 written n t d (tree-edge p c ∷ cs) = written n ((p, c) ∷ t) d cs
@@ -90,8 +100,13 @@ sheet n cs = 1 ∷ n ∷ spelt cs
 unfoldable pub spells : ℕ → List EdgeCommand → Graph
 spells n cs = written n [] [] cs
 
+-- The bytes are a well-formed sheet: they spell a dominance graph with 01's bounds. 02, One: "A sheet that gets 12 isn't
+-- well-formed."
+abbrev pub WellFormedSheet : List ℕ → Type 0
+WellFormedSheet bs = (n : ℕ) × (cs : List EdgeCommand) × (bs ≡ sheet n cs) × WellFormed (spells n cs) × (length bs ≤ longest)
+
 -- "The tidy sheet has 0x01, then tree edges by ascending child, then dominance edges by ascending leaf and then root,
--- then 0x00."
+-- then 0x00." 02, One: "The tidy sheet has each edge once".
 unfoldable pub tidyTree : Graph → List ℕ
 tidyTree g = spread (g .nodes) (λ c. spread (g .nodes) (λ p. cond (among (g .tree) p c) (2 ∷ p ∷ c ∷ []) []))
 

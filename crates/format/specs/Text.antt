@@ -10,7 +10,7 @@ use Rattle.graph.specs.Graph.{Graph, root, none}
 use Rattle.graph.specs.Placing.{at, Unsolvable}
 use Rattle.graph.specs.Order.{Listing, limit, countAnswer}
 use Rattle.format.specs.Refusal.{number}
-use Rattle.format.specs.Sheet.{Outcome, refused, accepted}
+use Rattle.format.specs.Sheet.{Outcome, refused, accepted, longest}
 use Rattle.format.specs.declared.Refusal.{Refusal}
 use Rattle.format.specs.declared.Refusal.the-variants.{NoReading}
 use Rattle.graph.specs.declared.Count.{Count}
@@ -66,9 +66,9 @@ numbered g k (p ∷ ps) = readingLine g k p ∷ numbered g (suc k) ps
 unfoldable pub printed : Graph → List (List ℕ) → List (List ℕ)
 printed g ps = countLine (countAnswer (length ps)) ∷ numbered g 1 (take limit ps)
 
--- "a sheet of up to 2,048 bytes on standard input; a longer input is judged by its first 2,048"
+-- 02, One: "the program reads 2,049 bytes to tell"
 abbrev pub judged : List ℕ → List ℕ
-judged input = take 2048 input
+judged input = take (suc longest) input
 
 -- What is printed of a sheet that comes to this: "A refusal is one line", also that it has no reading; or the list.
 pub data PrintedList : Outcome → List ℕ → Type 0 where

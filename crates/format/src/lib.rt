@@ -2,7 +2,11 @@
 ghost use mathlib.Core.Path.{_≡_};
 ghost use Rattle.format.specs.Refusal.{number};
 
-// The refusals of document 01, "Who can cause which refusal"; `number` of specs/Refusal.antt gives the number of each.
+// The most bytes of a sheet: `longest` of specs/Sheet.antt.
+pub const LONGEST: usize = 2048;
+
+// The refusals of document 01, "Who can cause which refusal", and of document 02; `number` of specs/Refusal.antt gives the number of
+// each.
 pub enum Refusal {
     Missing,
     Command,
@@ -10,14 +14,14 @@ pub enum Refusal {
     Tree,
     Bare,
     Ends,
-    Repeated,
     TooMany,
     NoReading,
     SmallBuffer,
     NoSuchReading,
+    TooLong,
 }
 
-// The number that document 01 gives to each refusal.
+// The number that the documents give to each refusal.
 pub fn number(why: Refusal) -> u8
     ensures { λ r. ⌜ r ≡ number why ⌝ }
 {
@@ -28,10 +32,10 @@ pub fn number(why: Refusal) -> u8
         Refusal::Tree => 4,
         Refusal::Bare => 5,
         Refusal::Ends => 6,
-        Refusal::Repeated => 7,
         Refusal::TooMany => 8,
         Refusal::NoReading => 9,
         Refusal::SmallBuffer => 10,
         Refusal::NoSuchReading => 11,
+        Refusal::TooLong => 12,
     }
 }

@@ -6,7 +6,6 @@ use mathlib.Core.List.{List, [], _∷_}
 use mathlib.Core.Bool.{Bool, true, false, cond, not, _&&_, _||_}
 use mathlib.Core.Logic.{_⊎_}
 use lib.Dec.{eqb, ltb}
-use lib.ListN.{length}
 use Rattle.base_finite.specs.Below.{any}
 
 -- an edge from its first part to its second
@@ -28,10 +27,10 @@ unfoldable pub left : List Edge → ℕ → Bool
 left [] v = false
 left (e ∷ es) v = eqb (e .0) v || left es v
 
--- no edge stands in the list twice
-unfoldable pub distinct : List Edge → Bool
-distinct [] = true
-distinct (e ∷ es) = not (among es (e .0) (e .1)) && distinct es
+-- how many different edges the list has
+unfoldable pub different : List Edge → ℕ
+different [] = 0
+different (e ∷ es) = cond (among es (e .0) (e .1)) (different es) (suc (different es))
 
 -- no two entries of the list go to one node
 unfoldable pub single : List Edge → Bool
@@ -117,9 +116,8 @@ pub record WellFormed (g : Graph) : Type 0 where
   pub on-tree-edge : (v : ℕ) → v < g .nodes → (entered (g .tree) v || left (g .tree) v) ≡ true
   -- "Each dominance edge goes from a leaf to a root, of the same fragment or another."
   pub leaf-to-root : (l r : ℕ) → DominanceEdge g l r → (leaf g l ≡ true) × (root g r ≡ true)
-  -- "There are at most 255 of them, all different."
-  pub few-edges : length (g .dominance) ≤ 255
-  pub all-different : distinct (g .dominance) ≡ true
+  -- "There are at most 255 of them", and (02, One) "8 counts different edges"
+  pub few-edges : different (g .dominance) ≤ 255
 
 -- "their nodes and edges agree"
 pub record Agree (g h : Graph) : Type 0 where

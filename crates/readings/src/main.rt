@@ -1,8 +1,8 @@
 // Prints the list of the readings of the sheet on standard input, as document 01's "The printed list" has it. What decides stands
 // in `show_input` and `show_list`: this reads, calls and writes.
 use libc::STDOUT_FILENO;
+use show_input::INPUT;
 use show_input::Input;
-use show_input::LONGEST;
 use show_input::REFUSAL;
 use show_input::read_input;
 use show_list::first_page;
@@ -37,7 +37,7 @@ fn list(input: Input)
 }
 
 fn main() {
-    let mut bytes = [0u8; LONGEST];
+    let mut bytes = [0u8; INPUT];
     let got = io::read_full(0, &mut bytes);
     let mut line = [0u8; REFUSAL];
     let input = read_input(&bytes, got, &mut line);

@@ -13,7 +13,7 @@ use borrow.Author.Tests.{eqb-true, leb-true, ne-eqb}
 use types.Run.{OneOf}
 use denote.Enum.Declared.{tagOf}
 use Rattle.base_finite.proofs.Laws.{by-bool, and-both}
-use Rattle.format.specs.Sheet.{refused, commands, outcome}
+use Rattle.format.specs.Sheet.{refused, commands, allCommands}
 use Rattle.format.specs.declared.Refusal.the-variants.{Command, Range}
 use Rattle.sheet_commands.proofs.turn.Run.{the-type}
 use Rattle.sheet_commands.proofs.Steps.{step-width, commands-step}
@@ -26,25 +26,25 @@ use Rattle.sheet_commands.specs.declared.turn.Run.the-variants.{Going, E
 
 -- the first command
 begins : (s parents low high : List ℕ) → Blank parents low high → Running s (widthOf (stepAt s 0)) (begun (stepAt s 0)) parents low high
-unfolding outcome stepOf commandOf operandsOf byteOf placed Reached
+unfolding allCommands stepOf commandOf operandsOf byteOf placed Reached
 begins [] parents low high blank = record { past = tt; reached = refl }
 begins (b ∷ []) parents low high blank =
     by-bool (eqb b 1)
     (λ (e : eqb b 1 ≡ true). rw (eqb-true b 1 e) (record { past = tt; reached = refl }))
-    (λ (e : eqb b 1 ≡ false). let out : outcome (b ∷ []) ≡ refused Command = rw e in rw e (record { past = tt; reached = out }))
+    (λ (e : eqb b 1 ≡ false). let out : allCommands (b ∷ []) ≡ refused Command = rw e in rw e (record { past = tt; reached = out }))
 begins (b ∷ n ∷ rest) parents low high blank =
     by-bool (eqb b 1)
     (λ (e : eqb b 1 ≡ true).
     rw (eqb-true b 1 e)
     (by-bool (leb 2 n && leb n 128)
     (λ (f : (leb 2 n && leb n 128) ≡ true).
-    let out : outcome (1 ∷ n ∷ rest) ≡ commands n [] [] rest = rw f in
+    let out : allCommands (1 ∷ n ∷ rest) ≡ commands n [] [] rest = rw f in
     rw f (record { past = omega arith; reached = ([], [], leb-true n 128 (and-both (leb 2 n) (leb n 128) f .1), out, blank n) }))
     (λ (f : (leb 2 n && leb n 128) ≡ false).
-    let out : outcome (1 ∷ n ∷ rest) ≡ refused Range = rw f in
+    let out : allCommands (1 ∷ n ∷ rest) ≡ refused Range = rw f in
     rw f (record { past = tt; reached = out }))))
     (λ (e : eqb b 1 ≡ false).
-    let out : outcome (b ∷ n ∷ rest) ≡ refused Command = rw e in
+    let out : allCommands (b ∷ n ∷ rest) ≡ refused Command = rw e in
     rw e (record { past = tt; reached = out }))
 
 pub running-first : (s parents low high : List ℕ) → Blank parents low high → (p : Passed) → p ≡ passedAt s 0 → Running s (p .at) (begun (p .step)) parents low high
@@ -80,7 +80,7 @@ module _ (s : List ℕ) (at n k : ℕ) (parents low high : List ℕ) (w : Runnin
   further turned =
       let r = w .reached in
       let later : eqb at 0 ≡ false = ne-eqb at 0 (λ q. omega (arith, w .past)) in
-      let step : outcome s ≡ outcomeAfter n (r .0) (r .1) (drop (at + widthOf (stepAt s at)) s) (stepAt s at) =
+      let step : allCommands s ≡ outcomeAfter n (r .0) (r .1) (drop (at + widthOf (stepAt s at)) s) (stepAt s at) =
       r .3 ∙ commands-step n (r .0) (r .1) (drop at s) ∙ rw (later, drop-drop) in
       (record { past = past-on x (turned .1); reached = rw step (turned .0 (r .0) (r .1) (drop (at + widthOf (stepAt s at)) s) (r .4)) }, nearer x (turned .1))
 

@@ -1,9 +1,9 @@
 -- What a turn says of `outcomeAfter`: the tests on the tables are the tests on the edges that they hold, and a table with
--- the edge put in holds one edge more.
+-- the edge put in holds one edge more, or, where it held the edge, the same.
 use Prim.Native.Nat.{ℕ, _+_, _≤_, _<_}
 use mathlib.Core.Path.{_≡_, refl, sym, _∙_}
 use mathlib.Core.List.{List, [], _∷_}
-use mathlib.Core.Bool.{true, false, not, _||_, _&&_}
+use mathlib.Core.Bool.{Bool, true, false, not, _||_, _&&_}
 use mathlib.Core.Logic.{⊎-elim}
 use native.Mathlib.Numerals.{add-one}
 use native.Mathlib.Omega.{arith}
@@ -16,10 +16,10 @@ use borrow.Author.Tests.{le-leb, eqb-true, eqb-false}
 use Rattle.base_nodeset.specs.Set.{Inserted}
 use Rattle.base_nodeset.specs.declared.NodeSet.{NodeSet}
 use Rattle.base_tables.specs.Rows.{inRow, IsRow, RowPut}
-use Rattle.base_finite.proofs.Laws.{by-bool, or-right, or-none, eqb-sym}
-use Rattle.graph.specs.Graph.{Edge, among, entered, single, parent, none}
+use Rattle.base_finite.proofs.Laws.{by-bool, or-right, or-none, and-both, eqb-sym}
+use Rattle.graph.specs.Graph.{Edge, among, different, entered, single, parent, none}
 use Rattle.format.specs.Sheet.{beyond}
-use Rattle.format.specs.declared.Refusal.the-variants.{Command, Range, Tree as TreeRefusal, Repeated, TooMany}
+use Rattle.format.specs.declared.Refusal.the-variants.{Command, Range, Tree as TreeRefusal, TooMany}
 use Rattle.theory_edges.specs.Edges.{Within}
 use Rattle.theory_format.proofs.Spelling.{not-beyond}
 use Rattle.theory_edges.proofs.Edges.{among-cases}
@@ -72,6 +72,15 @@ heads-put l r heads more low high low′ high′ is with-r put a b =
     (λ (e : eqb l a ≡ true). rw (eqb-sym a l, e, with-r b, is b, eqb-sym b r, eqb-true l a e))
     (λ (e : eqb l a ≡ false). rw (eqb-sym a l, e))
 
+-- an edge that has stood before adds nothing
+pub again : (p : ℕ → ℕ → Bool) (l r u v : ℕ) → p l r ≡ true → p u v ≡ (eqb l u && eqb r v || p u v)
+again p l r u v f =
+    by-bool (eqb l u && eqb r v)
+    (λ (e : (eqb l u && eqb r v) ≡ true).
+    let b = and-both (eqb l u) (eqb r v) e in
+    rw (e, ← eqb-true l u (b .0), ← eqb-true r v (b .1)) f)
+    (λ (e : (eqb l u && eqb r v) ≡ false). rw e)
+
 within-more : (n x y : ℕ) (es : List Edge) → beyond n x y ≡ false → Within n es → Within n ((x, y) ∷ es)
 within-more n x y es e w u v a =
     let b = not-beyond n x y e in
@@ -123,10 +132,10 @@ module _ (n : ℕ) (t d : List Edge) (rest parents low high : List ℕ) (edges :
       let put : after ≡ set parents c p = rw q at a in
       rw (q, put, b, f) ((p, c) ∷ t, d, few, refl, tree-more p c b (or-none (eqb p c) (entered t c) f .1))))
 
-  dominance-more : (l r : ℕ) (low′ high′ : List ℕ) → beyond n l r ≡ false → length low′ ≡ length low → length high′ ≡ length high
+  dominance-more : (l r : ℕ) (low′ high′ : List ℕ) → beyond n l r ≡ false → among d l r ≡ false → length low′ ≡ length low → length high′ ≡ length high
       → HeadsAfter l r (Going n (edges + 1)) low high low′ high′ → Holds n t ((l, r) ∷ d) parents low′ high′ (edges + 1)
-  unfolding among
-  dominance-more l r low′ high′ b el eh a =
+  unfolding among different
+  dominance-more l r low′ high′ b f el eh a =
       record {
         tree-within = holds .tree-within;
         one-parent = holds .one-parent;
@@ -136,7 +145,23 @@ module _ (n : ℕ) (t d : List Edge) (rest parents low high : List ℕ) (edges :
         high-long = eh ∙ holds .high-long;
         parent-is = holds .parent-is;
         heads-are = λ u v. a u v ∙ rw (holds .heads-are u v);
-        edges-are = rw (holds .edges-are) (add-one (length d));
+        edges-are = rw (f, holds .edges-are) (add-one (different d));
+      }
+
+  -- an edge that has stood before
+  dominance-again : (l r : ℕ) (low′ high′ : List ℕ) → among d l r ≡ true → length low′ ≡ length low → length high′ ≡ length high
+      → HeadsAfter l r (Going n edges) low high low′ high′ → Holds n t d parents low′ high′ edges
+  dominance-again l r low′ high′ f el eh a =
+      record {
+        tree-within = holds .tree-within;
+        one-parent = holds .one-parent;
+        dominance-within = holds .dominance-within;
+        parents-long = holds .parents-long;
+        low-long = el ∙ holds .low-long;
+        high-long = eh ∙ holds .high-long;
+        parent-is = holds .parent-is;
+        heads-are = λ u v. a u v ∙ rw (holds .heads-are u v) (sym (again (among d) l r u v f));
+        edges-are = holds .edges-are;
       }
 
   pub dominance-turn : (l r : ℕ) (x : Run) (low′ high′ : List ℕ) → length low′ ≡ length low → length high′ ≡ length high
@@ -149,15 +174,18 @@ module _ (n : ℕ) (t d : List Edge) (rest parents low high : List ℕ) (edges :
       (λ (b : beyond n l r ≡ true). let q : x ≡ Refused Range = e ∙ rw b in rw (q, b))
       (λ (b : beyond n l r ≡ false).
       by-bool (among d l r)
-      (λ (f : among d l r ≡ true). let q : x ≡ Refused Repeated = e ∙ rw (b, same, f) in rw (q, b, f))
+      (λ (f : among d l r ≡ true).
+      let q : x ≡ Going n edges = e ∙ rw (b, same, f) in
+      let put : HeadsAfter l r (Going n edges) low high low′ high′ = rw q at a in
+      rw (q, b, f) (t, d, few, refl, dominance-again l r low′ high′ f el eh put))
       (λ (f : among d l r ≡ false).
       by-bool (leb 255 edges)
       (λ (m : leb 255 edges ≡ true). let q : x ≡ Refused TooMany = e ∙ rw (b, same, f, m) in rw (q, b, f, ← long, m))
       (λ (m : leb 255 edges ≡ false).
       let q : x ≡ Going n (edges + 1) = e ∙ rw (b, same, f, m) in
       let put : HeadsAfter l r (Going n (edges + 1)) low high low′ high′ = rw q at a in
-      let least : leb 255 (length d) ≡ false = rw (← long) m in
-      rw (q, b, f, least) (t, (l, r) ∷ d, few, refl, dominance-more l r low′ high′ b el eh put))))
+      let least : leb 255 (different d) ≡ false = rw (← long) m in
+      rw (q, b, f, least) (t, (l, r) ∷ d, few, refl, dominance-more l r low′ high′ b f el eh put))))
 
   pub end-turn : Reached (outcomeAfter n t d rest End) rest (Ended n edges) parents low high
   unfolding Reached outcomeAfter

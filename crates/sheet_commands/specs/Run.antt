@@ -2,7 +2,7 @@
 use Prim.Native.Nat.{ℕ, suc, _-_}
 use mathlib.Core.List.{List, []}
 use lib.ListN.{length, drop}
-use Rattle.format.specs.Sheet.{outcome}
+use Rattle.format.specs.Sheet.{allCommands}
 use Rattle.base_tables.specs.Tables.{Holds}
 use Rattle.sheet_commands.specs.Turn.{Reached, Past}
 use Rattle.sheet_commands.specs.declared.turn.Run.{Run}
@@ -15,7 +15,7 @@ Blank parents low high = (n : ℕ) → Holds n [] [] parents low high 0
 -- A run at offset `at` of the sheet s.
 pub record Running (s : List ℕ) (at : ℕ) (run : Run) (parents low high : List ℕ) : Type 0 where
   pub past : Past at run
-  pub reached : Reached (outcome s) (drop at s) run parents low high
+  pub reached : Reached (allCommands s) (drop at s) run parents low high
 
 -- so many bytes are left to a run, and the end
 abbrev pub leftOf : List ℕ → ℕ → Run → ℕ
@@ -23,8 +23,8 @@ leftOf s at (Going n k) = suc (length s - at)
 leftOf s at (Ended n k) = 0
 leftOf s at (Refused why) = 0
 
--- What a run that is over says of the sheet's outcome.
+-- What a run that is over says of what the sheet's commands come to.
 unfoldable pub Ran : List ℕ → Run → List ℕ → List ℕ → List ℕ → Type 0
 Ran s (Going n k) parents low high = ⊥
-Ran s (Ended n k) parents low high = Reached (outcome s) [] (Ended n k) parents low high
-Ran s (Refused why) parents low high = Reached (outcome s) [] (Refused why) parents low high
+Ran s (Ended n k) parents low high = Reached (allCommands s) [] (Ended n k) parents low high
+Ran s (Refused why) parents low high = Reached (allCommands s) [] (Refused why) parents low high

@@ -4,12 +4,12 @@ use mathlib.Core.Path.{_≡_}
 use mathlib.Core.List.{List, _∷_}
 use mathlib.Core.Bool.{cond, not, _||_, _&&_}
 use lib.Dec.{eqb, leb}
-use lib.ListN.{length, getD, set}
+use lib.ListN.{getD, set}
 use Rattle.base_nodeset.specs.Set.{member}
-use Rattle.graph.specs.Graph.{Edge, among, entered, none}
+use Rattle.graph.specs.Graph.{Edge, among, different, entered, none}
 use Rattle.base_tables.specs.Tables.{Holds}
 use Rattle.format.specs.Sheet.{Outcome, refused, beyond, whole, commands}
-use Rattle.format.specs.declared.Refusal.the-variants.{Command, Range, Tree, Repeated, TooMany}
+use Rattle.format.specs.declared.Refusal.the-variants.{Command, Range, Tree, TooMany}
 use Rattle.sheet_commands.specs.Step.{widthOf}
 use Rattle.sheet_commands.specs.declared.command.Step.{Step}
 use Rattle.sheet_commands.specs.declared.command.Step.the-variants.{Nodes, Tree as TreeStep, Dominance, End, Refused as StepRefused}
@@ -36,12 +36,12 @@ abbrev pub treeAnswer : ℕ → ℕ → ℕ → ℕ → List ℕ → Run
 treeAnswer n p c edges parents =
     cond (beyond n p c) (Refused Range) (cond (eqb p c || not (eqb (getD parents c 0) none)) (Refused Tree) (Going n edges))
 
--- the dominance edge from l to r: 3, then 7 before 8
+-- the dominance edge from l to r: 3, then 8 for one that is new
 abbrev pub dominanceAnswer : ℕ → ℕ → ℕ → ℕ → List ℕ → List ℕ → Run
 dominanceAnswer n l r edges low high =
     cond (beyond n l r)
     (Refused Range)
-    (cond (member (getD low l 0) (getD high l 0) r) (Refused Repeated) (cond (leb 255 edges) (Refused TooMany) (Going n (edges + 1))))
+    (cond (member (getD low l 0) (getD high l 0) r) (Going n edges) (cond (leb 255 edges) (Refused TooMany) (Going n (edges + 1))))
 
 -- where the tree edge was taken, the parent table has it
 abbrev pub ParentsAfter : ℕ → ℕ → Run → List ℕ → List ℕ → Type 0
@@ -49,7 +49,7 @@ ParentsAfter p c (Going n k) old new = new ≡ set old c p
 ParentsAfter p c (Ended n k) old new = Unit {0}
 ParentsAfter p c (Refused why) old new = Unit {0}
 
--- where the dominance edge was taken, the sets of roots have it
+-- where the dominance edge was taken, the sets of roots have it, also where they had it before
 abbrev pub HeadsAfter : ℕ → ℕ → Run → List ℕ → List ℕ → List ℕ → List ℕ → Type 0
 HeadsAfter l r (Going n k) low high low′ high′ =
     (a b : ℕ) → member (getD low′ a 0) (getD high′ a 0) b ≡ (eqb l a && eqb r b || member (getD low a 0) (getD high a 0) b)
@@ -64,7 +64,7 @@ outcomeAfter n t d rest (TreeStep p c) =
 outcomeAfter n t d rest (Dominance l r) =
     cond (beyond n l r)
     (refused Range)
-    (cond (among d l r) (refused Repeated) (cond (leb 255 (length d)) (refused TooMany) (commands n t ((l, r) ∷ d) rest)))
+    (cond (among d l r) (commands n t d rest) (cond (leb 255 (different d)) (refused TooMany) (commands n t ((l, r) ∷ d) rest)))
 outcomeAfter n t d rest End = whole (record { nodes = n; tree = t; dominance = d })
 outcomeAfter n t d rest (StepRefused why) = refused why
 

@@ -1,4 +1,4 @@
-// The commands of a sheet, one after the other, into tables: refusals 1 to 4, 7 and 8.
+// The commands of a sheet, one after the other, into tables: refusals 1 to 4 and 8.
 mod command;
 mod reader;
 pub mod run;

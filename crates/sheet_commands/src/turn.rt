@@ -9,7 +9,7 @@ ghost use Prim.Native.Nat.{_≤_};
 ghost use lib.ListN.{length};
 ghost use Rattle.sheet_commands.specs.Turn.{stopOf, begun, treeAnswer, dominanceAnswer, ParentsAfter, HeadsAfter, Turned};
 
-// Dominance edges of a sheet.
+// Different dominance edges of a sheet.
 const MOST_EDGES: usize = 255;
 
 // The commands up to some offset: the number of nodes and of dominance edges, or the refusal.
@@ -69,7 +69,7 @@ fn tree_edge(n: usize, p: u8, c: u8, edges: usize, parent: &mut [u8]) -> Run
     Run::Going(n, edges)
 }
 
-// 3, then 7 before 8.
+// 3, then 8 for an edge that is new. One that has stood before changes nothing.
 fn dominance_edge(n: usize, l: u8, r: u8, edges: usize, low: &mut [u64], high: &mut [u64]) -> Run
     requires { ⌜ (n ≤ 128) × (length (now low) ≡ 128) × (length (now high) ≡ 128) ⌝ }
     ensures { λ x. ⌜ x ≡ dominanceAnswer n l r edges (now (low .entry)) (now (high .entry)) ⌝ }
@@ -85,7 +85,7 @@ fn dominance_edge(n: usize, l: u8, r: u8, edges: usize, low: &mut [u64], high: &
     }
     let heads = set_at(low, high, leaf);
     if heads.has(head) {
-        return Run::Refused(Refusal::Repeated);
+        return Run::Going(n, edges);
     }
     if MOST_EDGES <= edges {
         return Run::Refused(Refusal::TooMany);

@@ -9,8 +9,8 @@ use lib.ListN.{replicate, length-replicate, getD-replicate}
 use denote.Enum.Declared.{tagOf}
 use Rattle.base_finite.proofs.Stores.{zeros}
 use Rattle.base_nodeset.proofs.Laws.{member-zero}
-use Rattle.graph.specs.Graph.{Edge, among, single, parent}
-use Rattle.format.specs.Sheet.{Outcome, whole, outcome}
+use Rattle.graph.specs.Graph.{Edge, among, different, single, parent}
+use Rattle.format.specs.Sheet.{Outcome, whole, allCommands}
 use Rattle.format.specs.declared.Refusal.{Refusal}
 use Rattle.sheet_decode.proofs.Judges.{graphOf}
 use Rattle.sheet_commands.proofs.turn.Run.{the-type}
@@ -30,7 +30,7 @@ use Rattle.sheet_decode.specs.declared.read.Decoded.the-variants.{Filled
 -- the tables
 
 pub blank : (m : ℕ) → m ≡ 128 → Blank (replicate m 255) (replicate m 0) (replicate m 0)
-unfolding parent single among
+unfolding parent single among different
 blank m e n =
     record {
       tree-within = λ u v h. absurd (false≢true h);
@@ -48,28 +48,28 @@ blank m e n =
 
 module _ (s parents low high : List ℕ) (x : Run) (ran : Ran s x parents low high) where
   pub ended : (n k : ℕ) → x ≡ Ended n k
-      → (t : List Edge) × (d : List Edge) × (n ≤ 128) × (outcome s ≡ whole (graphOf n t d)) × Holds n t d parents low high k
+      → (t : List Edge) × (d : List Edge) × (n ≤ 128) × (allCommands s ≡ whole (graphOf n t d)) × Holds n t d parents low high k
   unfolding Ran Reached
   ended n k e = rw e at ran
 
-  pub run-stopped : ((tagOf the-type x ≡ 0) ⊎ (tagOf the-type x ≡ 2)) → Decodes (outcome s) (stopOf x) parents low high
+  pub run-stopped : ((tagOf the-type x ≡ 0) ⊎ (tagOf the-type x ≡ 2)) → Decodes (allCommands s) (stopOf x) parents low high
   unfolding Decodes Ran Reached
   run-stopped o = stopped x ran o
     where
-      stopped : (y : Run) → Ran s y parents low high → ((tagOf the-type y ≡ 0) ⊎ (tagOf the-type y ≡ 2)) → Decodes (outcome s) (stopOf y) parents low high
+      stopped : (y : Run) → Ran s y parents low high → ((tagOf the-type y ≡ 0) ⊎ (tagOf the-type y ≡ 2)) → Decodes (allCommands s) (stopOf y) parents low high
       stopped (Going n k) r o = absurd r
       stopped (Ended n k) r o = absurd (⊎-elim (λ q. omega arith) (λ q. omega arith) o)
       stopped (RunRefused why) r o = r
 
   module _ (n k : ℕ) (e : x ≡ Ended n k) (v : Verdict) (judged : (t d : List Edge) (edges : ℕ) → Holds n t d parents low high edges → Judged n t d v) where
-    pub judge-refused : (why : Refusal) → v ≡ VerdictRefused why → Decodes (outcome s) (unacceptedOf v) parents low high
+    pub judge-refused : (why : Refusal) → v ≡ VerdictRefused why → Decodes (allCommands s) (unacceptedOf v) parents low high
     unfolding Decodes
     judge-refused why f =
         let r = ended n k e in
         let judged-so = rw f at (judged (r .0) (r .1) k (r .4)) in
         rw f (r .3 ∙ judged-so)
 
-    pub judge-accepted : v ≡ Accepted → Decodes (outcome s) (Filled n k) parents low high
+    pub judge-accepted : v ≡ Accepted → Decodes (allCommands s) (Filled n k) parents low high
     unfolding Decodes
     judge-accepted f =
         let r = ended n k e in

@@ -3,7 +3,7 @@ use Prim.Native.Nat.{ℕ}
 use mathlib.Core.Path.{_≡_}
 use mathlib.Core.List.{List}
 use Rattle.graph.specs.Graph as spec
-use Rattle.format.specs.Sheet.{Outcome, refused, accepted, outcome}
+use Rattle.format.specs.Sheet.{Outcome, refused, accepted}
 use Rattle.base_tables.specs.Tables.{Holds}
 use Rattle.sheet_decode.specs.declared.judge.Verdict.{Verdict}
 use Rattle.sheet_decode.specs.declared.judge.Verdict.the-variants.{Accepted, Refused as VerdictRefused}
@@ -29,9 +29,6 @@ unfoldable pub Decodes : Outcome → Decoded → List ℕ → List ℕ → List 
 Decodes o (Refused why) parents low high = o ≡ refused why
 Decodes o (Filled n k) parents low high =
     (g : spec.Graph) × (o ≡ accepted g) × (g .nodes ≡ n) × Holds n (g .tree) (g .dominance) parents low high k
-
-abbrev pub Decoding : List ℕ → Decoded → List ℕ → List ℕ → List ℕ → Type 0
-Decoding bs x parents low high = Decodes (outcome bs) x parents low high
 
 -- The value is the graph's.
 pub record Value (g : spec.Graph) (v : Graph) : Type 0 where

@@ -1,14 +1,15 @@
 // A whole sheet: the graph that it spells, or its refusal.
 use crate::judge::Verdict;
 use crate::judge::judge;
+use format::LONGEST;
 use format::Refusal;
 use graph::NONE;
 use sheet_commands::run::commands;
 use sheet_commands::turn::Run;
 ghost use mathlib.Core.Path.{_≡_};
-ghost use Rattle.format.specs.Sheet.{outcome};
+ghost use Rattle.format.specs.Sheet.{allCommands, outcome};
 ghost use Rattle.sheet_commands.specs.Run.{Blank};
-ghost use Rattle.sheet_decode.specs.Read.{stopOf, unacceptedOf, Decoding, Reads};
+ghost use Rattle.sheet_decode.specs.Read.{stopOf, unacceptedOf, Decodes, Reads};
 
 pub enum Decoded {
     // The number of nodes and of dominance edges.
@@ -53,10 +54,10 @@ fn unaccepted(verdict: Verdict) -> Decoded
     }
 }
 
-// The sheet decoded into tables of 128 entries.
-pub fn decode_into(sheet: &[u8], parent: &mut [u8], low: &mut [u64], high: &mut [u64]) -> Decoded
+// All commands of the sheet, decoded into tables of 128 entries.
+fn decode_commands(sheet: &[u8], parent: &mut [u8], low: &mut [u64], high: &mut [u64]) -> Decoded
     requires { ⌜ Blank (now parent) (now low) (now high) ⌝ }
-    ensures { λ x. ⌜ Decoding (now (sheet .entry)) x (now (parent .exit)) (now (low .exit)) (now (high .exit)) ⌝ }
+    ensures { λ x. ⌜ Decodes (allCommands (now (sheet .entry))) x (now (parent .exit)) (now (low .exit)) (now (high .exit)) ⌝ }
 {
     let run = commands(sheet, parent, low, high);
     let Run::Ended(n, edges) = run else {
@@ -67,6 +68,17 @@ pub fn decode_into(sheet: &[u8], parent: &mut [u8], low: &mut [u64], high: &mut 
         return unaccepted(verdict);
     };
     Decoded::Filled(n, edges)
+}
+
+// 12 before every other check.
+fn decode_into(sheet: &[u8], parent: &mut [u8], low: &mut [u64], high: &mut [u64]) -> Decoded
+    requires { ⌜ Blank (now parent) (now low) (now high) ⌝ }
+    ensures { λ x. ⌜ Decodes (outcome (now (sheet .entry))) x (now (parent .exit)) (now (low .exit)) (now (high .exit)) ⌝ }
+{
+    if LONGEST < sheet.len() {
+        return Decoded::Refused(Refusal::TooLong);
+    }
+    decode_commands(sheet, parent, low, high)
 }
 
 pub fn read(sheet: &[u8]) -> Answer

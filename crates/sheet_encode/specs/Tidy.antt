@@ -55,8 +55,8 @@ TidiesTo g r old new =
     (r ≡ cond (ltb (length old) (length (tidy g))) (Refused SmallBuffer) (Length (length (tidy g))))
     × (new ≡ cond (ltb (length old) (length (tidy g))) old (tidy g ++ drop (length (tidy g)) old))
 
--- The answer, and the lent bytes afterwards, for a sheet with the outcome o: "It comes after 1 to 8"; "All other refusals
--- write nothing."
+-- The answer, and the lent bytes afterwards, for a sheet with the outcome o: 10 comes after the sheet's own refusals; "All
+-- other refusals write nothing."
 abbrev pub Tidies : Outcome → Tidied → List ℕ → List ℕ → Type 0
 Tidies (refused why) r old new = (r ≡ Refused why) × (new ≡ old)
 Tidies (accepted g) r old new = TidiesTo g r old new

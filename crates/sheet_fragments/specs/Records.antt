@@ -14,7 +14,7 @@ use Rattle.sheet_fragments.specs.declared.Table.{Table}
 use Rattle.sheet_fragments.specs.declared.Table.the-variants.{Filled, Refused}
 use Rattle.sheet_fragments.specs.declared.records.Records.{Records}
 
--- 1 to 8 of the sheet, then 10: "one record per fragment"
+-- the sheet's own refusals, then 10: "one record per fragment"
 abbrev pub answerOf : Outcome → ℕ → Table
 answerOf (refused why) room = Refused why
 answerOf (accepted g) room = cond (ltb room (length (fragments g))) (Refused SmallBuffer) (Filled (length (fragments g)))

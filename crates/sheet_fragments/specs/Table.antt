@@ -23,7 +23,7 @@ flat (f ∷ fs) = f .root ∷ f .«lowest_leaf» ∷ f .leaves ∷ flat fs
 abbrev pub size : Graph → ℕ
 size g = 3 * length (fragments g)
 
--- 1 to 8 of the sheet, then 10
+-- the sheet's own refusals, then 10
 abbrev pub answerOf : Outcome → List ℕ → Table
 answerOf (refused why) out = Refused why
 answerOf (accepted g) out = cond (ltb (length out) (size g)) (Refused SmallBuffer) (Filled (length (fragments g)))

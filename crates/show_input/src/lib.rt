@@ -2,21 +2,20 @@
 use base_nodeset::NodeSet;
 use base_tables::trees::Trees;
 use base_text::refused_line;
+use format::LONGEST;
 use format::Refusal;
 use sheet_decode::judge::Verdict;
 use sheet_decode::read::Graph;
 use sheet_decode::read::read;
 use solve_start::begin;
-ghost use mathlib.Core.Path.{_≡_};
-ghost use Prim.Native.Nat.{_≤_, min};
+ghost use Prim.Native.Nat.{suc, _≤_};
 ghost use lib.ListN.{length, take};
-ghost use Rattle.format.specs.Sheet.{outcome, accepted};
-ghost use Rattle.format.specs.Text.{judged};
+ghost use Rattle.format.specs.Sheet.{longest, outcome, accepted};
 ghost use Rattle.base_tables.specs.Tables.{SheetTables};
 ghost use Rattle.show_input.specs.Input.{Refuses, ComesTo};
 
-// So much of the input counts.
-pub const LONGEST: usize = 2048;
+// A byte more than a sheet may have: so much of an input tells whether it is too long.
+pub const INPUT: usize = LONGEST + 1;
 
 // Room for a refusal's line.
 pub const REFUSAL: usize = 40;
@@ -79,20 +78,12 @@ fn prepare(graph: Graph, out: &mut [u8]) -> Input
     }
 }
 
-// How many bytes are judged.
-fn counts(got: usize) -> usize
-    ensures { λ r. ⌜ r ≡ min got 2048 ⌝ }
-{
-    if got < LONGEST { got } else { LONGEST }
-}
-
-// Of the first `got` bytes of the input. The place lent for it is as long as what counts, so that nothing of that is left unread.
+// Of the first `got` bytes of the input. The place lent for it is as long as what tells, so that nothing of that is left unread.
 pub fn read_input(input: &[u8], got: usize, out: &mut [u8]) -> Input
-    requires { ⌜ (2048 ≤ length (now input)) × (got ≤ length (now input)) × (40 ≤ length (now out)) ⌝ }
-    ensures { λ r. ⌜ ComesTo (now (out .entry)) r (now (out .exit)) (outcome (judged (take got (now (input .entry))))) ⌝ }
+    requires { ⌜ (suc longest ≤ length (now input)) × (got ≤ length (now input)) × (40 ≤ length (now out)) ⌝ }
+    ensures { λ r. ⌜ ComesTo (now (out .entry)) r (now (out .exit)) (outcome (take got (now (input .entry)))) ⌝ }
 {
-    let end = counts(got);
-    let answer = read(&input[..end]);
+    let answer = read(&input[..got]);
     let verdict = answer.verdict;
     let graph = answer.graph;
     match verdict {

@@ -10,6 +10,7 @@ use Rattle.graph.specs.Graph.{Graph}
 use Rattle.graph.specs.Order.{limit, countAnswer}
 use Rattle.format.specs.Sheet.{Outcome, refused, accepted, outcome}
 use Rattle.format.specs.Text.{countLine, printed, judged, PrintedList, refusal as refused-line, no-reading as none-printed, readings}
+use Rattle.theory_format.proofs.Length.{judged-tells}
 use Rattle.theory_list.specs.Readings.{listed}
 use Rattle.theory_list.proofs.Readings.{listing-exists}
 use Rattle.show_input.specs.Input.{Ready, ComesTo, refusal, no-reading, ready}
@@ -56,8 +57,11 @@ pages-printed (accepted g) r (no-reading none f) e s texts call p = absurd (true
 pages-printed (accepted g) r (ready b same) e s texts call p = list-printed g s texts (call g b) p
 
 -- "The printed list", of any input: a refusal's line, or line 1 and a line for each reading with a number
-pub run-printed : (input : List ℕ) (texts : List (List ℕ)) → Run input texts → PrintedList (outcome (judged input)) (joined texts)
+pub run-printed : (input : List ℕ) (texts : List (List ℕ)) → Run input texts → PrintedList (outcome input) (joined texts)
 unfolding joined
-run-printed input _ (refusal-run {new = new} r f e) =
-    subst (PrintedList (outcome (judged input))) (sym (append-nil (take (r .bytes) new))) (refused-printed (outcome (judged input)) r f e)
-run-printed input _ (list-run r f e s call p) = pages-printed (outcome (judged input)) r f e s _ call p
+run-printed input texts run = subst (λ (o : Outcome). PrintedList o (joined texts)) (judged-tells input) (of-judged texts run)
+  where
+    of-judged : (ts : List (List ℕ)) → Run input ts → PrintedList (outcome (judged input)) (joined ts)
+    of-judged _ (refusal-run {new = new} r f e) =
+        subst (PrintedList (outcome (judged input))) (sym (append-nil (take (r .bytes) new))) (refused-printed (outcome (judged input)) r f e)
+    of-judged _ (list-run r f e s call p) = pages-printed (outcome (judged input)) r f e s _ call p

@@ -13,7 +13,7 @@ use lib.Seq.{getD-set-same, getD-set-other, drop-set-lt, length-take-le, getD-ta
 use borrow.Author.Tests.{eq-eqb, eqb-true}
 use Rattle.base_finite.specs.Below.{any, least}
 use Rattle.base_finite.proofs.Laws.{by-bool, or-left, or-right, or-cases, or-comm, any-at, any-found, least-at, least-holds}
-use Rattle.graph.specs.Graph.{Graph, among, entered, parent, none, TreeEdge, DominanceEdge, GraphEdge}
+use Rattle.graph.specs.Graph.{Graph, among, different, entered, parent, none, TreeEdge, DominanceEdge, GraphEdge}
 use Rattle.graph.specs.Order.{without, removed}
 use Rattle.graph.specs.Cycle.{pairs, node, kind, hypernormalCycle}
 use Rattle.theory_edges.proofs.Edges.{parent-among, parent-only, parent-unentered}
@@ -229,7 +229,7 @@ module _ (g : Graph) (n : ℕ) (parents low high : List ℕ) (t : Thinned g n pa
       let e = some-edge (over g (t .kept)) (thinned-shaped g n parents low high (before n) t) (t .unsolvable) in
       let there : inRow low high (e .0) (e .1) ≡ true = t .tables .holds .heads-are (e .0) (e .1) ∙ e .2 in
       let w = row-within g n parents low high (before n) t (e .0) (e .1) there in
-      let few = few-nodes (over g (t .kept)) n parents low high (length (t .kept)) (t .tables) in
+      let few = few-nodes (over g (t .kept)) n parents low high (different (t .kept)) (t .tables) in
       any-at n (λ l. any 128 (inRow low high l)) (e .0) (w .0) (any-at 128 (inRow low high (e .0)) (e .1) (omega (arith, w .1)) there)
 
   pub first-leaf-is : (l : ℕ) → l ≡ least n (λ x. any 128 (inRow low high x)) → (l < n) × (any 128 (inRow low high l) ≡ true)
@@ -239,8 +239,8 @@ module _ (g : Graph) (n : ℕ) (parents low high : List ℕ) (t : Thinned g n pa
     kept-edge : DominanceEdge (over g (t .kept)) l r
     kept-edge = sym (t .tables .holds .heads-are l r) ∙ edge
 
-    rest-tables : Tables (removed (over g (t .kept)) l r) n parents low′ high′ (length (without (t .kept) l r))
-    rest-tables = removed-tables (over g (t .kept)) n parents low high (length (t .kept)) l r low′ high′ (t .tables) o
+    rest-tables : Tables (removed (over g (t .kept)) l r) n parents low′ high′ (different (without (t .kept) l r))
+    rest-tables = removed-tables (over g (t .kept)) n parents low high (different (t .kept)) l r low′ high′ (t .tables) o
 
     pub linked : Linked n parents low′ high′ l r
     unfolding removed
@@ -248,7 +248,7 @@ module _ (g : Graph) (n : ℕ) (parents low high : List ℕ) (t : Thinned g n pa
         let w = row-within g n parents low high (before n) t l r edge in
         record {
           graph = removed (over g (t .kept)) l r;
-          edges = length (without (t .kept) l r);
+          edges = different (without (t .kept) l r);
           tables = rest-tables;
           leaf-small = w .0;
           root-small = w .1;
@@ -286,7 +286,7 @@ module _ (g : Graph) (n : ℕ) (parents low high : List ℕ) (t : Thinned g n pa
       step i h =
           let p = ring .steps i h in
           rw (p .1)
-          (joined-step (removed (over g (t .kept)) l r) n parents low′ high′ (length (without (t .kept) l r)) rest-tables
+          (joined-step (removed (over g (t .kept)) l r) n parents low′ high′ (different (without (t .kept) l r)) rest-tables
           (node new i) (node new (i + 1)) (ring .within i (omega arith)) (ring .within (i + 1) h) (p .0))
 
       spelt : Spelt g (Others (over g (t .kept)) l r) l r (take (2 * c) new)

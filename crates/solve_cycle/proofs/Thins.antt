@@ -12,10 +12,9 @@ use borrow.Author.Tests.{eq-eqb, eqb-true, lt-ltb, ltb-true, ltb-false, not-true
 use Rattle.base_finite.proofs.Laws.{by-bool, and-both, or-cases, not-holding, test-ext}
 use Rattle.base_nodeset.specs.Set.{mem, Empty, Removed}
 use Rattle.base_nodeset.specs.declared.NodeSet.{NodeSet}
-use Rattle.graph.specs.Graph.{Edge, Graph, among, distinct, root, leaf, WellFormed}
+use Rattle.graph.specs.Graph.{Edge, Graph, among, different, root, leaf, WellFormed}
 use Rattle.graph.specs.Order.{without, removed}
 use Rattle.graph.specs.Placing.{Solvable}
-use Rattle.theory_edges.proofs.Edges.{distinct-cons}
 use Rattle.theory_forest.specs.Shape.{Shaped}
 use Rattle.theory_forest.proofs.Shape.{without-among, well-formed-shaped}
 use Rattle.theory_forest.specs.Table.{Among}
@@ -42,22 +41,19 @@ without-is es l r a b =
     (without-among es l r a b)
     (without-keeps es l r a b (λ q. true≢false (sym (rw (eq-eqb a l (q .0), eq-eqb b r (q .1))) ∙ t)))))
 
-without-shorter : (es : List Edge) (l r : ℕ) → length (without es l r) ≤ length es
-unfolding without
-without-shorter [] l r = omega arith
-without-shorter (e ∷ es) l r =
-    let ih : length (without es l r) ≤ length es = without-shorter es l r in
-    by-bool (eqb (e .0) l && eqb (e .1) r) (λ t. rw t (omega arith)) (λ t. rw t (omega arith))
-
-without-distinct : (es : List Edge) (l r : ℕ) → distinct es ≡ true → distinct (without es l r) ≡ true
-unfolding without distinct
-without-distinct [] l r d = refl
-without-distinct (e ∷ es) l r d =
-    let p = distinct-cons e es d in
-    let ih : distinct (without es l r) ≡ true = without-distinct es l r (p .1) in
-    let fresh : among (without es l r) (e .0) (e .1) ≡ false =
-    not-holding (among (without es l r) (e .0) (e .1)) (λ m. true≢false (sym (without-among es l r (e .0) (e .1) m) ∙ p .0)) in
-    by-bool (eqb (e .0) l && eqb (e .1) r) (λ t. rw t ih) (λ t. rw (t, fresh) ih)
+-- no more different ones than before
+without-fewer : (es : List Edge) (l r : ℕ) → different (without es l r) ≤ different es
+unfolding without different
+without-fewer [] l r = omega arith
+without-fewer (e ∷ es) l r =
+    let ih : different (without es l r) ≤ different es = without-fewer es l r in
+    by-bool (eqb (e .0) l && eqb (e .1) r)
+    (λ (t : (eqb (e .0) l && eqb (e .1) r) ≡ true).
+    rw t (by-bool (among es (e .0) (e .1)) (λ (s : among es (e .0) (e .1) ≡ true). rw s ih) (λ (s : among es (e .0) (e .1) ≡ false). rw s (omega arith))))
+    (λ (t : (eqb (e .0) l && eqb (e .1) r) ≡ false).
+    let same : among (without es l r) (e .0) (e .1) ≡ among es (e .0) (e .1) = without-is es l r (e .0) (e .1) ∙ rw t in
+    rw (t, same)
+    (by-bool (among es (e .0) (e .1)) (λ (s : among es (e .0) (e .1) ≡ true). rw s ih) (λ (s : among es (e .0) (e .1) ≡ false). rw s (omega arith))))
 
 -- the graph without an edge is in the tables that it is taken out of
 
@@ -72,12 +68,11 @@ removed-well-formed g l r w =
       no-tree-cycle = w .no-tree-cycle;
       on-tree-edge = w .on-tree-edge;
       leaf-to-root = λ x y m. w .leaf-to-root x y (without-among (g .dominance) l r x y m);
-      few-edges = omega (arith, without-shorter (g .dominance) l r, w .few-edges);
-      all-different = without-distinct (g .dominance) l r (w .all-different);
+      few-edges = omega (arith, without-fewer (g .dominance) l r, w .few-edges);
     }
 
 pub removed-tables : (g : Graph) (n : ℕ) (parents low high : List ℕ) (edges l r : ℕ) (low′ high′ : List ℕ) → Tables g n parents low high edges → TakenOut l r low high low′ high′
-    → Tables (removed g l r) n parents low′ high′ (length (without (g .dominance) l r))
+    → Tables (removed g l r) n parents low′ high′ (different (without (g .dominance) l r))
 unfolding removed
 removed-tables g n parents low high edges l r low′ high′ t o =
     record {
@@ -157,8 +152,8 @@ module _ (g : Graph) (n : ℕ) (parents low high : List ℕ) (settled : ℕ → 
   module _ (l r : ℕ) (low′ high′ : List ℕ) (o : TakenOut l r low high low′ high′) (b : Bool) (answer : Answers n parents low′ high′ b) where
     answered : (b ≡ true) ↔ Solvable (removed (over g (t .kept)) l r)
     answered =
-        answer (removed (over g (t .kept)) l r) (length (without (t .kept) l r))
-        (removed-tables (over g (t .kept)) n parents low high (length (t .kept)) l r low′ high′ (t .tables) o)
+        answer (removed (over g (t .kept)) l r) (different (without (t .kept) l r))
+        (removed-tables (over g (t .kept)) n parents low high (different (t .kept)) l r low′ high′ (t .tables) o)
 
     -- row l put back makes the old rows
     pub settle-stays : (row : NodeSet) {low″ high″ : List ℕ} → IsRow (inRow low high) l row → RowPut l row low′ high′ low″ high″ → b ≡ true → Thinned g n parents low″ high″ (andEdge settled l r)
@@ -205,7 +200,7 @@ module _ (g : Graph) (n : ℕ) (parents low high : List ℕ) (settled : ℕ → 
         record {
           kept = es;
           inside = λ x y m. t .inside x y (without-among (t .kept) l r x y m);
-          tables = removed-tables (over g (t .kept)) n parents low high (length (t .kept)) l r low′ high′ (t .tables) o;
+          tables = removed-tables (over g (t .kept)) n parents low high (different (t .kept)) l r low′ high′ (t .tables) o;
           unsolvable = λ s. true≢false (sym (answered .1 s) ∙ z);
           needed = λ x y h m.
               ⊎-elim

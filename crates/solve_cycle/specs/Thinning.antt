@@ -6,7 +6,7 @@ use mathlib.Core.List.{List}
 use mathlib.Core.Bool.{Bool, true, not, _&&_, _||_}
 use lib.Dec.{eqb, ltb}
 use lib.ListN.{length}
-use Rattle.graph.specs.Graph.{Edge, Graph, DominanceEdge}
+use Rattle.graph.specs.Graph.{Edge, Graph, different, DominanceEdge}
 use Rattle.graph.specs.Order.{removed}
 use Rattle.graph.specs.Placing.{Solvable}
 use Rattle.base_tables.specs.Rows.{inRow}
@@ -40,7 +40,7 @@ pub record TakenOut (l r : ℕ) (low high low′ high′ : List ℕ) : Type 0 wh
 pub record Thinned (g : Graph) (n : ℕ) (parents low high : List ℕ) (settled : ℕ → ℕ → Bool) : Type 0 where
   pub kept : List Edge
   pub inside : (l r : ℕ) → Among kept l r → DominanceEdge g l r
-  pub tables : Tables (over g kept) n parents low high (length kept)
+  pub tables : Tables (over g kept) n parents low high (different kept)
   pub unsolvable : Solvable (over g kept) → ⊥
   pub needed : (l r : ℕ) → settled l r ≡ true → Among kept l r → Solvable (removed (over g kept) l r)
 

@@ -4,8 +4,8 @@ use crate::table::byte;
 use crate::table::put;
 ghost use Prim.Native.Nat.{_≤_};
 
-// The longest sheet is shorter: 126 tree edges at most, 255 dominance edges.
-const SHEET: usize = 1200;
+// No sheet has more bytes.
+const SHEET: usize = 2048;
 
 const TREE: usize = 2;
 
@@ -18,7 +18,17 @@ pub fn nodes_of(sheet: &[u8]) -> usize
     byte(sheet, 1) % (NODES + 1)
 }
 
-// Of each node its parent, and of each dominance edge its leaf and its root; the number of dominance edges.
+// Whether the dominance edge is one of the first `number`.
+fn stands(leaves: &[u8], roots: &[u8], number: usize, from: usize, to: usize) -> bool {
+    for k in 0..number {
+        if byte(leaves, k) == from && byte(roots, k) == to {
+            return true;
+        }
+    }
+    false
+}
+
+// Of each node its parent, and of each dominance edge its leaf and its root, once; the number of dominance edges.
 pub fn unpack(sheet: &[u8], parent: &mut [u8], leaves: &mut [u8], roots: &mut [u8]) -> usize {
     let mut number = 0;
     let mut at = FIRST;
@@ -48,6 +58,9 @@ fn keep(
     let to = byte(sheet, at + 2);
     if byte(sheet, at) == TREE {
         put(parent, to, from);
+        return number;
+    }
+    if stands(leaves, roots, number, from, to) {
         return number;
     }
     put(leaves, number, from);

@@ -22,9 +22,9 @@ use Rattle.format.specs.Text.{printed}
 use Rattle.theory_cases.specs.Table.{refusal, lists, drawn, configured-to, Holds, rows, square, fork, square-placing, ConfiguredTo}
 use Rattle.theory_cases.proofs.Rows.{all-hold}
 
-pub eleven-rows : length rows ≡ 11
+pub thirteen-rows : length rows ≡ 13
 unfolding rows
-eleven-rows = refl
+thirteen-rows = refl
 
 -- the square, by the row of its configuration
 pub some-solvable : (g : Graph) × (outcome square ≡ accepted g) × WellFormed g × SolvedForm g square-placing

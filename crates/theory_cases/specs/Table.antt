@@ -1,4 +1,5 @@
--- The starred cases of document 01, "The printed list", as the rows of one table: the bytes of a sheet, and a claim.
+-- The starred cases of document 01, "The printed list", and cases of document 02, as the rows of one table: the bytes of a sheet,
+-- and a claim.
 -- What a claim means is said by the definitions of crates/graph, its relations and not the functions that compute them.
 -- Each text is the document's, in ASCII; each line of it ends with the byte 10. Of each sheet the tree edges stand in the
 -- document's order, then the dominance edges, then 0. A sheet of which the document claims several things has a row for each.
@@ -21,7 +22,7 @@ use Rattle.format.specs.declared.Refusal.the-variants.{NoReading}
 
 -- What is claimed of a sheet.
 pub data Claim : Type 0 where
-  -- its bytes are refused with this number, 1 to 8
+  -- its bytes are refused with this number
   refusal : ℕ → Claim
   -- it is refused with this number as having no reading, and these bytes check as a simple hypernormal cycle of it
   no-reading : ℕ → List ℕ → Claim
@@ -106,6 +107,14 @@ square = 1 ∷ 8 ∷ 2 ∷ 0 ∷ 1 ∷ 2 ∷ 2 ∷ 3 ∷ 2 ∷ 4 ∷ 5 ∷ 2 ∷
 unfoldable pub chain : List ℕ
 chain = 1 ∷ 12 ∷ 2 ∷ 0 ∷ 1 ∷ 2 ∷ 0 ∷ 2 ∷ 2 ∷ 3 ∷ 4 ∷ 2 ∷ 3 ∷ 5 ∷ 2 ∷ 6 ∷ 7 ∷ 2 ∷ 8 ∷ 9 ∷ 2 ∷ 10 ∷ 11 ∷ 3 ∷ 1 ∷ 6 ∷ 3 ∷ 2 ∷ 8 ∷ 3 ∷ 4 ∷ 8 ∷ 3 ∷ 5 ∷ 10 ∷ 0 ∷ []
 
+-- 02, One: 0-1, 2-3 with 1-2 twice
+unfoldable pub twice : List ℕ
+twice = 1 ∷ 4 ∷ 2 ∷ 0 ∷ 1 ∷ 2 ∷ 2 ∷ 3 ∷ 3 ∷ 1 ∷ 2 ∷ 3 ∷ 1 ∷ 2 ∷ 0 ∷ []
+
+-- the same with a tree edge twice
+unfoldable pub tree-twice : List ℕ
+tree-twice = 1 ∷ 4 ∷ 2 ∷ 0 ∷ 1 ∷ 2 ∷ 0 ∷ 1 ∷ 2 ∷ 2 ∷ 3 ∷ 3 ∷ 1 ∷ 2 ∷ 0 ∷ []
+
 -- the lines
 
 -- "readings 1"
@@ -119,6 +128,10 @@ readings-2 = 114 ∷ 101 ∷ 97 ∷ 100 ∷ 105 ∷ 110 ∷ 103 ∷ 115 ∷ 32 �
 -- "1"
 unfoldable pub line-1 : List ℕ
 line-1 = 49 ∷ 10 ∷ []
+
+-- "1 2:1"
+unfoldable pub twice-1 : List ℕ
+twice-1 = 49 ∷ 32 ∷ 50 ∷ 58 ∷ 49 ∷ 10 ∷ []
 
 -- "1 2:1 4:3 6:3"
 unfoldable pub square-1 : List ℕ
@@ -150,7 +163,7 @@ pub record Row : Type 0 where
   pub claim : Claim
 
 unfoldable pub rows : List Row
-unfolding one-edge loop fork square chain readings-1 readings-2 line-1 square-1 square-2 chain-1 chain-2 chain-drawing square-placing
+unfolding one-edge loop fork square chain twice tree-twice readings-1 readings-2 line-1 twice-1 square-1 square-2 chain-1 chain-2 chain-drawing square-placing
 rows =
     record { sheet = []; claim = refusal 1 }
     ∷ record { sheet = 0x05 ∷ []; claim = refusal 2 }
@@ -163,6 +176,8 @@ rows =
     ∷ record { sheet = square; claim = configured-to square-placing }
     ∷ record { sheet = chain; claim = lists (readings-2 ∷ chain-1 ∷ chain-2 ∷ []) }
     ∷ record { sheet = chain; claim = drawn 1 chain-drawing }
+    ∷ record { sheet = twice; claim = lists (readings-1 ∷ twice-1 ∷ []) }
+    ∷ record { sheet = tree-twice; claim = refusal 4 }
     ∷ []
 
 -- the row at i, from 0

@@ -13,7 +13,8 @@ use Rattle.graph.specs.Placing.{placing}
 use Rattle.graph.specs.Table.{fragments}
 use Rattle.graph.specs.declared.Fragment.{Fragment}
 use Rattle.format.specs.Sheet.{Outcome, refused, accepted, outcome, tidy}
-use Rattle.theory_format.proofs.Refusals.{refused-number}
+use Rattle.format.specs.Refusal.{number}
+use Rattle.theory_format.proofs.Refusals.{refused-number, not-9}
 use Rattle.check_placing.specs.Answered.{Answered}
 use Rattle.check_placing.specs.declared.Answers.{Answers}
 use Rattle.sheet_encode.specs.Tidy.{Tidies}
@@ -81,13 +82,13 @@ no-placing (PlacingCall.answered a f x) h e =
 
 -- "Checking, tidying and the fragment table never give 9."
 
--- 1 to 8 are the sheet's, and after them comes only 10
+-- 1 to 6, 8 and 12 are the sheet's, and after them comes only 10
 never : (bs : List ℕ) (small : Graph → Type 0) (o : Outcome) (k : ℕ) → outcome bs ≡ o → Numbered (λ g. First 10 (small g) NoRefusal) o k → k ≡ asNoReading → ⊥
-never bs small (refused why) k is e n = omega (arith, e, n, refused-number bs why is .1)
+never bs small (refused why) k is e n = not-9 (number why) (refused-number bs why is) (sym e ∙ n)
 never bs small (accepted g) k is x n = ⊎-elim (λ (y : small g × (k ≡ 10)). omega (arith, n, y .1)) (λ (y : (small g → ⊥) × (k ≡ 0)). omega (arith, n, y .1)) x
 
 cycle-never : (bs cycle : List ℕ) (o : Outcome) (r : CycleChecked) → outcome bs ≡ o → CycleOf o cycle r → cycleNumber r ≡ asNoReading → ⊥
-cycle-never bs cycle (refused why) r is e n = omega (arith, n, ap cycleNumber e, refused-number bs why is .1)
+cycle-never bs cycle (refused why) r is e n = not-9 (number why) (refused-number bs why is) (sym (ap cycleNumber e) ∙ n)
 cycle-never bs cycle (accepted g) r is e n = omega (arith, n, ap cycleNumber e)
 
 placing-number : (o : Outcome) (bytes : List ℕ) (r : PlacingChecked) → PlacingOf o bytes r → PlacingNumbered bytes o (placingNumber r)

@@ -1,12 +1,11 @@
 -- Graphs that agree: what is said of nodes and edges alone holds of both or of neither.
--- Only the tests that count entries, not edges, are told of each graph by itself: a tree edge written once, all
--- dominance edges different, at most 255 of them.
+-- Only the test that counts entries, not edges, is told of each graph by itself: a tree edge is written once.
 use Prim.Native.Nat.{ℕ, _≤_, _<_}
 use mathlib.Core.Path.{_≡_, sym, subst, _∙_}
 use mathlib.Core.Bool.{true}
-use lib.ListN.{length}
-use Rattle.graph.specs.Graph.{Graph, distinct, single, root, leaf, TreeEdge, Path, one, more, WellFormed, Agree}
-use Rattle.theory_edges.proofs.Edges.{entered-ext, left-ext}
+use Rattle.graph.specs.Graph.{Graph, single, root, leaf, TreeEdge, Path, one, more, WellFormed, Agree}
+use Rattle.theory_edges.proofs.Edges.{entered-ext, left-ext, different-same}
+use Rattle.theory_edges.proofs.Ends.{dominance-within}
 
 pub agree-sym : (g h : Graph) → Agree g h → Agree h g
 agree-sym g h k =
@@ -36,8 +35,8 @@ pub tree-path-agree : (g h : Graph) → Agree g h → {u v : ℕ} → Path (Tree
 tree-path-agree g h k (one {u = u} {v = v} e) = one (sym (k .same-tree u v) ∙ e)
 tree-path-agree g h k (more {v = u} {w = v} p e) = more (tree-path-agree g h k p) (sym (k .same-tree u v) ∙ e)
 
-pub well-formed-agree : (g h : Graph) → Agree g h → WellFormed g → single (h .tree) ≡ true → length (h .dominance) ≤ 255 → distinct (h .dominance) ≡ true → WellFormed h
-well-formed-agree g h k w s few d =
+pub well-formed-agree : (g h : Graph) → Agree g h → WellFormed g → single (h .tree) ≡ true → WellFormed h
+well-formed-agree g h k w s =
     record {
       some-nodes = subst (λ (n : ℕ). 2 ≤ n) (k .same-nodes) (w .some-nodes);
       few-nodes = subst (λ (n : ℕ). n ≤ 128) (k .same-nodes) (w .few-nodes);
@@ -48,6 +47,5 @@ well-formed-agree g h k w s few d =
       leaf-to-root = λ l r e.
           let b = w .leaf-to-root l r (k .same-dominance l r ∙ e) in
           (sym (leaf-agree g h k l) ∙ b .0, sym (root-agree g h k r) ∙ b .1);
-      few-edges = few;
-      all-different = d;
+      few-edges = subst (λ (m : ℕ). m ≤ 255) (different-same (g .nodes) (g .dominance) (h .dominance) (dominance-within g w) (k .same-dominance)) (w .few-edges);
     }

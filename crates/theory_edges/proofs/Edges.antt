@@ -1,6 +1,6 @@
 -- Laws of lists of edges: which edges are among them, which nodes they enter and leave, and who is whose parent.
--- A list with no two entries to one node gives each node one parent. A list in which no edge stands twice, between
--- numbers below n, is as long as the number of pairs among it; so its length depends only on which pairs those are.
+-- A list with no two entries to one node gives each node one parent. A list of edges between numbers below n has as many
+-- different ones as there are pairs among it; so their number depends only on which pairs those are.
 use Prim.Native.Nat.{ℕ, zero, suc, _+_, _*_, _≤_, _<_}
 use mathlib.Core.Path.{_≡_, refl, sym, _∙_}
 use mathlib.Core.List.{List, [], _∷_}
@@ -13,8 +13,8 @@ use lib.ListN.{length}
 use borrow.Author.Tests.{eqb-true, eq-eqb, not-true}
 use Rattle.base_finite.specs.Below.{count}
 use Rattle.base_finite.proofs.Laws.{last-or-below, by-bool, or-right, or-cases, or-none, and-both, count-ext, count-none, count-one-more, not-holding, test-ext}
-use Rattle.graph.specs.Graph.{Edge, among, entered, left, distinct, single, none, parent}
-use Rattle.theory_edges.specs.Edges.{Within, sum, total}
+use Rattle.graph.specs.Graph.{Edge, among, entered, left, different, single, none, parent}
+use Rattle.theory_edges.specs.Edges.{Within, distinct, sum, total}
 
 pub among-cases : (e : Edge) (es : List Edge) (u v : ℕ) → among (e ∷ es) u v ≡ true → ((e .0 ≡ u) × (e .1 ≡ v)) ⊎ (among es u v ≡ true)
 unfolding among
@@ -119,7 +119,7 @@ parent-only (e ∷ es) p c s h =
 pub one-parent : (es : List Edge) (p q c : ℕ) → single es ≡ true → among es p c ≡ true → among es q c ≡ true → p ≡ q
 one-parent es p q c s h k = parent-only es p c s h ∙ sym (parent-only es q c s k)
 
--- all different
+-- different edges
 
 pub distinct-cons : (e : Edge) (es : List Edge) → distinct (e ∷ es) ≡ true → (among es (e .0) (e .1) ≡ false) × (distinct es ≡ true)
 unfolding distinct
@@ -195,18 +195,42 @@ total-cons n e es u v fresh =
     (λ j apart. among-same e es (e .0) j (λ b. apart (sym (b .1)))))
     (λ j apart. count-ext n (among es j) (among (e ∷ es) j) (λ k l. among-same e es j k (λ b. apart (sym (b .0)))))
 
-pub length-total : (n : ℕ) (es : List Edge) → distinct es ≡ true → Within n es → length es ≡ total n es
-length-total n [] d w = sym (total-none n)
-length-total n (e ∷ es) d w =
-    let a = distinct-cons e es d in
-    let b = within-cons n e es w in
-    let ih : length es ≡ total n es = length-total n es (a .1) (b .2) in
-    let more : total n (e ∷ es) ≡ total n es + 1 = total-cons n e es (b .0) (b .1) (a .0) in
-    omega arith
-
 pub total-ext : (n : ℕ) (es fs : List Edge) → ((u v : ℕ) → among es u v ≡ among fs u v) → total n es ≡ total n fs
 unfolding total
 total-ext n es fs same = sum-ext n (λ u. count n (among es u)) (λ u. count n (among fs u)) (λ u l. count-ext n (among es u) (among fs u) (λ v k. same u v))
 
-pub same-length : (n : ℕ) (es fs : List Edge) → distinct es ≡ true → distinct fs ≡ true → Within n es → Within n fs → ((u v : ℕ) → among es u v ≡ among fs u v) → length es ≡ length fs
-same-length n es fs d c w x same = length-total n es d w ∙ total-ext n es fs same ∙ sym (length-total n fs c x)
+pub total-again : (n : ℕ) (e : Edge) (es : List Edge) → among es (e .0) (e .1) ≡ true → total n (e ∷ es) ≡ total n es
+total-again n e es stood =
+    total-ext n (e ∷ es) es
+    (λ u v. test-ext (among (e ∷ es) u v) (among es u v)
+    (λ h. ⊎-elim (λ (b : (e .0 ≡ u) × (e .1 ≡ v)). rw (← b .0, ← b .1) stood) (λ (t : among es u v ≡ true). t) (among-cases e es u v h))
+    (among-rest e es u v))
+
+pub different-total : (n : ℕ) (es : List Edge) → Within n es → different es ≡ total n es
+unfolding different
+different-total n [] w = sym (total-none n)
+different-total n (e ∷ es) w =
+    let b = within-cons n e es w in
+    let ih : different es ≡ total n es = different-total n es (b .2) in
+    by-bool (among es (e .0) (e .1))
+    (λ (a : among es (e .0) (e .1) ≡ true). rw a (ih ∙ sym (total-again n e es a)))
+    (λ (a : among es (e .0) (e .1) ≡ false). rw a (omega (arith, ih, total-cons n e es (b .0) (b .1) a)))
+
+-- how many there are depends only on which they are
+pub different-same : (n : ℕ) (es fs : List Edge) → Within n es → ((u v : ℕ) → among es u v ≡ among fs u v) → different es ≡ different fs
+different-same n es fs w same =
+    different-total n es w ∙ total-ext n es fs same ∙ sym (different-total n fs (λ u v h. w u v (same u v ∙ h)))
+
+-- where none stands twice, they are the list's length
+pub distinct-different : (es : List Edge) → distinct es ≡ true → different es ≡ length es
+unfolding different
+distinct-different [] d = refl
+distinct-different (e ∷ es) d = let a = distinct-cons e es d in rw (a .0, distinct-different es (a .1))
+
+pub different-short : (es : List Edge) → different es ≤ length es
+unfolding different
+different-short [] = omega arith
+different-short (e ∷ es) =
+    by-bool (among es (e .0) (e .1))
+    (λ (a : among es (e .0) (e .1) ≡ true). rw a (omega (arith, different-short es)))
+    (λ (a : among es (e .0) (e .1) ≡ false). rw a (omega (arith, different-short es)))

@@ -2,5 +2,5 @@ pub mod Edges
 pub mod Pigeonhole
 pub mod Cyclic
 pub mod Tables
-pub mod Agreement
 pub mod Ends
+pub mod Agreement

@@ -11,9 +11,9 @@ use lib.Dec.{eqb}
 use lib.ListN.{length, length-append}
 use Rattle.base_finite.specs.Below.{any, count, spread}
 use Rattle.base_finite.proofs.Laws.{any-at, any-found, not-holding}
-use Rattle.graph.specs.Graph.{Edge, among, entered, distinct, single, parent}
+use Rattle.graph.specs.Graph.{Edge, among, entered, single, parent}
 use Rattle.theory_edges.proofs.Edges.{among-cases, among-first, among-rest, among-none, parent-among, distinct-cons, sum-ext}
-use Rattle.theory_edges.specs.Edges.{sum}
+use Rattle.theory_edges.specs.Edges.{distinct, sum}
 
 or-assoc : (a b c : Bool) → (a || (b || c)) ≡ (a || b || c)
 or-assoc true b c = refl

@@ -1,14 +1,19 @@
 -- Edges between the nodes of a graph.
 use Prim.Native.Nat.{ℕ, _<_, zero, suc, _+_}
 use mathlib.Core.Path.{_≡_}
-use mathlib.Core.List.{List}
-use mathlib.Core.Bool.{true}
+use mathlib.Core.List.{List, [], _∷_}
+use mathlib.Core.Bool.{Bool, true, not, _&&_}
 use Rattle.graph.specs.Graph.{Edge, Graph, among}
 use Rattle.base_finite.specs.Below.{count}
 
 -- the edges are between numbers below n
 abbrev pub Within : ℕ → List Edge → Type 0
 Within n es = (u v : ℕ) → among es u v ≡ true → (u < n) × (v < n)
+
+-- no edge stands in the list twice
+unfoldable pub distinct : List Edge → Bool
+distinct [] = true
+distinct (e ∷ es) = not (among es (e .0) (e .1)) && distinct es
 
 -- f 0 + f 1 + .. + f (n - 1)
 unfoldable pub sum : ℕ → (ℕ → ℕ) → ℕ

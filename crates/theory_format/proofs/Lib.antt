@@ -1,4 +1,5 @@
 pub mod Whole
+pub mod Length
 pub mod Spelling
 pub mod Tidy
 pub mod Refusals

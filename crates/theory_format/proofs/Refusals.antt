@@ -1,20 +1,25 @@
--- Bytes that are refused are refused by a number of 1 to 8: what later calls add, 9, 10 and 11, is no refusal of the bytes.
+-- Bytes that are refused are refused by a number of 1 to 6, 8 or 12: what later calls add, 9, 10 and 11, is no refusal of the
+-- bytes. No refusal has the number 7.
 use Prim.Native.Nat.{ℕ, _≤_}
-use mathlib.Core.Path.{_≡_, subst}
+use mathlib.Core.Path.{_≡_, refl, subst}
 use mathlib.Core.List.{List, [], _∷_}
 use mathlib.Core.Bool.{Bool, true, false, cond, _&&_, _||_}
+use mathlib.Core.Logic.{_⊎_, inl, inr}
 use native.Mathlib.Omega.{arith}
-use lib.Dec.{eqb, leb}
+use lib.Dec.{eqb, leb, ltb}
 use lib.ListN.{length}
-use Rattle.graph.specs.Graph.{Edge, Graph, among, entered, cyclic}
-use Rattle.format.specs.Sheet.{Outcome, refused, accepted, bare, astray, whole, takesTwo, beyond, commands, outcome}
+use Rattle.graph.specs.Graph.{Edge, Graph, among, different, entered, cyclic}
+use Rattle.format.specs.Sheet.{Outcome, refused, accepted, bare, astray, whole, takesTwo, beyond, commands, allCommands, longest, outcome}
 use Rattle.format.specs.Refusal.{number}
 use Rattle.format.specs.declared.Refusal.{Refusal}
-use Rattle.format.specs.declared.Refusal.the-variants.{Missing, Command}
+use Rattle.format.specs.declared.Refusal.the-variants.{Missing, Command, Range, Tree, Bare, Ends, TooMany, NoReading, SmallBuffer, NoSuchReading, TooLong}
 
--- if it is a refusal, its number is one of the first eight
+abbrev pub OfBytes : ℕ → Type 0
+OfBytes k = ((1 ≤ k) × (k ≤ 6)) ⊎ ((k ≡ 8) ⊎ (k ≡ 12))
+
+-- if it is a refusal, its number is one of these
 abbrev Few : Outcome → Type 0
-Few (refused why) = (1 ≤ number why) × (number why ≤ 8)
+Few (refused why) = OfBytes (number why)
 Few (accepted g) = Unit {0}
 
 either : (b : Bool) (x y : Outcome) → Few x → Few y → Few (cond b x y)
@@ -25,28 +30,64 @@ either-why : (b : Bool) (x y : Refusal) → Few (refused x) → Few (refused y) 
 either-why true x y p q = p
 either-why false x y p q = q
 
+missing-or-command : (b : Bool) → Few (refused (cond b Missing Command))
+missing-or-command b = either-why b Missing Command (inl (omega arith, omega arith)) (inl (omega arith, omega arith))
+
+range : Few (refused Range)
+range = inl (omega arith, omega arith)
+
+tree : Few (refused Tree)
+tree = inl (omega arith, omega arith)
+
+command : Few (refused Command)
+command = inl (omega arith, omega arith)
+
 whole-few : (g : Graph) → Few (whole g)
 unfolding whole
-whole-few g = either (cyclic g) _ _ (omega arith, omega arith) (either (bare g) _ _ (omega arith, omega arith) (either (astray g) _ _ (omega arith, omega arith) tt))
+whole-few g = either (cyclic g) _ _ tree (either (bare g) _ _ (inl (omega arith, omega arith)) (either (astray g) _ _ (inl (omega arith, omega arith)) tt))
 
 commands-few : (n : ℕ) (t d : List Edge) (bs : List ℕ) → Few (commands n t d bs)
 unfolding commands
-commands-few n t d [] = (omega arith, omega arith)
-commands-few n t d (b ∷ []) = either (eqb b 0) _ _ (whole-few _) (either-why (takesTwo b) Missing Command (omega arith, omega arith) (omega arith, omega arith))
-commands-few n t d (b ∷ x ∷ []) = either-why (takesTwo b) Missing Command (omega arith, omega arith) (omega arith, omega arith)
+commands-few n t d [] = inl (omega arith, omega arith)
+commands-few n t d (b ∷ []) = either (eqb b 0) _ _ (whole-few _) (missing-or-command (takesTwo b))
+commands-few n t d (b ∷ x ∷ []) = missing-or-command (takesTwo b)
 commands-few n t d (b ∷ x ∷ y ∷ rest) =
     either (eqb b 2) _ _
-    (either (beyond n x y) _ _ (omega arith, omega arith) (either (eqb x y || entered t y) _ _ (omega arith, omega arith) (commands-few n ((x, y) ∷ t) d rest)))
+    (either (beyond n x y) _ _ range (either (eqb x y || entered t y) _ _ tree (commands-few n ((x, y) ∷ t) d rest)))
     (either (eqb b 3) _ _
-    (either (beyond n x y) _ _ (omega arith, omega arith) (either (among d x y) _ _ (omega arith, omega arith) (either (leb 255 (length d)) _ _ (omega arith, omega arith) (commands-few n t ((x, y) ∷ d) rest))))
-    (omega arith, omega arith))
+    (either (beyond n x y) _ _ range
+    (either (among d x y) _ _ (commands-few n t d rest) (either (leb 255 (different d)) _ _ (inr (inl refl)) (commands-few n t ((x, y) ∷ d) rest))))
+    command)
+
+all-few : (bs : List ℕ) → Few (allCommands bs)
+unfolding allCommands
+all-few [] = inl (omega arith, omega arith)
+all-few (b ∷ []) = missing-or-command (eqb b 1)
+all-few (b ∷ n ∷ rest) = either (eqb b 1) _ _ (either (leb 2 n && leb n 128) _ _ (commands-few n [] [] rest) range) command
 
 outcome-few : (bs : List ℕ) → Few (outcome bs)
 unfolding outcome
-outcome-few [] = (omega arith, omega arith)
-outcome-few (b ∷ []) = either-why (eqb b 1) Missing Command (omega arith, omega arith) (omega arith, omega arith)
-outcome-few (b ∷ n ∷ rest) =
-    either (eqb b 1) _ _ (either (leb 2 n && leb n 128) _ _ (commands-few n [] [] rest) (omega arith, omega arith)) (omega arith, omega arith)
+outcome-few bs = either (ltb longest (length bs)) _ _ (inr (inr refl)) (all-few bs)
 
-pub refused-number : (bs : List ℕ) (why : Refusal) → outcome bs ≡ refused why → (1 ≤ number why) × (number why ≤ 8)
+pub refused-number : (bs : List ℕ) (why : Refusal) → outcome bs ≡ refused why → OfBytes (number why)
 refused-number bs why e = subst Few e (outcome-few bs)
+
+-- no such refusal is given for what a call makes of the bytes
+pub not-9 : (k : ℕ) → OfBytes k → k ≡ 9 → ⊥
+not-9 k (inl b) e = omega (arith, b .1, e)
+not-9 k (inr (inl b)) e = omega (arith, b, e)
+not-9 k (inr (inr b)) e = omega (arith, b, e)
+
+-- 02, One: "Refusal 7 then no longer occurs"
+pub never-7 : (why : Refusal) → number why ≡ 7 → ⊥
+never-7 Missing e = omega arith
+never-7 Command e = omega arith
+never-7 Range e = omega arith
+never-7 Tree e = omega arith
+never-7 Bare e = omega arith
+never-7 Ends e = omega arith
+never-7 TooMany e = omega arith
+never-7 NoReading e = omega arith
+never-7 SmallBuffer e = omega arith
+never-7 NoSuchReading e = omega arith
+never-7 TooLong e = omega arith

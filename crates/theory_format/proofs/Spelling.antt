@@ -1,24 +1,27 @@
--- The theorem of acceptance: a sheet is accepted exactly when its bytes spell a well-formed graph, and the accepted
--- graph has the nodes and edges written, no others.
+-- The theorem of acceptance: bytes are accepted exactly when they are a well-formed sheet, and the accepted graph has the nodes
+-- and edges written, no others.
+-- What is accepted has each dominance edge once (`once`), and agrees with what is written, in which edges may be repeated.
 -- Reading goes with `Taken`, what holds of the edges read so far. Writing goes the other way: what holds of the whole
 -- graph's lists held of the lists at each point before, because a list only grows.
 use Prim.Native.Nat.{ℕ, _≤_, _<_}
 use mathlib.Core.Path.{_≡_, refl, sym, subst, ap, _∙_}
 use mathlib.Core.List.{List, [], _∷_}
 use mathlib.Core.Bool.{true, false, cond, _&&_, _||_}
-use mathlib.Core.Logic.{⊎-elim}
+use mathlib.Core.Logic.{⊎-elim, _↔_}
 use native.Mathlib.Omega.{arith}
 use lib.Dec.{eqb, leb}
 use lib.ListN.{length}
 use borrow.Author.Tests.{eqb-true, leb-true, leb-false, le-leb, lt-leb, ne-eqb}
-use Rattle.base_finite.proofs.Laws.{by-bool, or-none, and-both}
-use Rattle.graph.specs.Graph.{Edge, Graph, among, entered, distinct, single, TreeEdge, one, WellFormed}
-use Rattle.format.specs.Sheet.{Outcome, refused, accepted, whole, takesTwo, beyond, commands, outcome, EdgeCommand, tree-edge, dominance-edge, spelt, written, sheet, spells}
-use Rattle.format.specs.declared.Refusal.the-variants.{Missing, Command, Range, Tree, Repeated, TooMany}
+use Rattle.base_finite.proofs.Laws.{by-bool, or-none, and-both, test-ext}
+use Rattle.graph.specs.Graph.{Edge, Graph, among, different, entered, single, TreeEdge, one, WellFormed, Agree}
+use Rattle.format.specs.Sheet.{Outcome, refused, accepted, whole, takesTwo, beyond, commands, allCommands, longest, outcome, EdgeCommand, tree-edge, dominance-edge, spelt, written, sheet, spells, WellFormedSheet}
+use Rattle.format.specs.declared.Refusal.the-variants.{Missing, Command, Range, Tree, TooMany}
 use Rattle.theory_edges.specs.Edges.{Within}
 use Rattle.theory_edges.proofs.Ends.{dominance-within}
-use Rattle.theory_edges.proofs.Edges.{among-cases, among-first, among-rest, among-none, single-cons, distinct-cons}
+use Rattle.theory_edges.proofs.Edges.{among-cases, among-first, among-rest, among-none, single-cons}
+use Rattle.theory_edges.proofs.Agreement.{agree-sym, well-formed-agree}
 use Rattle.theory_format.proofs.Whole.{Taken, not-refused, passed, whole-same, well-formed-of-whole, whole-of-well-formed}
+use Rattle.theory_format.proofs.Length.{short-enough, accepted-short}
 
 -- what the commands take
 
@@ -30,7 +33,7 @@ within-more n x y es w a b u v h =
     (among-cases (x, y) es u v h)
 
 taken-none : (n : ℕ) → 2 ≤ n → n ≤ 128 → Taken n [] []
-unfolding single distinct
+unfolding single different
 taken-none n a b =
     record {
       some-nodes = a;
@@ -39,7 +42,6 @@ taken-none n a b =
       one-parent = refl;
       dominance-within = λ u v h. absurd (among-none u v h);
       few-edges = omega arith;
-      all-different = refl;
     }
 
 taken-tree : (n : ℕ) (t d : List Edge) (x y : ℕ) → Taken n t d → x < n → y < n → entered t y ≡ false → Taken n ((x, y) ∷ t) d
@@ -52,11 +54,10 @@ taken-tree n t d x y k a b fresh =
       one-parent = rw fresh (k .one-parent);
       dominance-within = k .dominance-within;
       few-edges = k .few-edges;
-      all-different = k .all-different;
     }
 
-taken-dominance : (n : ℕ) (t d : List Edge) (x y : ℕ) → Taken n t d → x < n → y < n → among d x y ≡ false → length d < 255 → Taken n t ((x, y) ∷ d)
-unfolding distinct
+taken-dominance : (n : ℕ) (t d : List Edge) (x y : ℕ) → Taken n t d → x < n → y < n → among d x y ≡ false → different d < 255 → Taken n t ((x, y) ∷ d)
+unfolding different
 taken-dominance n t d x y k a b fresh room =
     record {
       some-nodes = k .some-nodes;
@@ -64,8 +65,7 @@ taken-dominance n t d x y k a b fresh room =
       tree-within = k .tree-within;
       one-parent = k .one-parent;
       dominance-within = within-more n x y d (k .dominance-within) a b;
-      few-edges = omega arith;
-      all-different = rw fresh (k .all-different);
+      few-edges = rw fresh (omega arith);
     }
 
 -- what the tests of a command leave
@@ -76,39 +76,56 @@ not-beyond n x y e =
     let b = or-none (leb n x) (leb n y) e in
     (leb-false n x (b .0), leb-false n y (b .1))
 
-tree-passed : (n x y : ℕ) (t : List Edge) (o : Outcome) (g : Graph) → cond (beyond n x y) (refused Range) (cond (eqb x y || entered t y) (refused Tree) o) ≡ accepted g → (x < n) × (y < n) × (entered t y ≡ false) × (o ≡ accepted g)
-tree-passed n x y t o g e =
-    let a = passed (beyond n x y) Range (cond (eqb x y || entered t y) (refused Tree) o) g e in
-    let b = passed (eqb x y || entered t y) Tree o g (a .1) in
+within-passed : (n x y : ℕ) (o : Outcome) (g : Graph) → cond (beyond n x y) (refused Range) o ≡ accepted g → (x < n) × (y < n) × (o ≡ accepted g)
+within-passed n x y o g e =
+    let a = passed (beyond n x y) Range o g e in
     let w = not-beyond n x y (a .0) in
-    (w .0, w .1, or-none (eqb x y) (entered t y) (b .0) .1, b .1)
+    (w .0, w .1, a .1)
 
-dominance-passed : (n x y : ℕ) (d : List Edge) (o : Outcome) (g : Graph) → cond (beyond n x y) (refused Range) (cond (among d x y) (refused Repeated) (cond (leb 255 (length d)) (refused TooMany) o)) ≡ accepted g → (x < n) × (y < n) × (among d x y ≡ false) × (length d < 255) × (o ≡ accepted g)
-dominance-passed n x y d o g e =
-    let a = passed (beyond n x y) Range (cond (among d x y) (refused Repeated) (cond (leb 255 (length d)) (refused TooMany) o)) g e in
-    let b = passed (among d x y) Repeated (cond (leb 255 (length d)) (refused TooMany) o) g (a .1) in
-    let c = passed (leb 255 (length d)) TooMany o g (b .1) in
-    let w = not-beyond n x y (a .0) in
-    (w .0, w .1, b .0, leb-false 255 (length d) (c .0), c .1)
+tree-passed : (x y : ℕ) (t : List Edge) (o : Outcome) (g : Graph) → cond (eqb x y || entered t y) (refused Tree) o ≡ accepted g → (entered t y ≡ false) × (o ≡ accepted g)
+tree-passed x y t o g e =
+    let b = passed (eqb x y || entered t y) Tree o g e in
+    (or-none (eqb x y) (entered t y) (b .0) .1, b .1)
 
--- the bytes after the first command spell commands that write g on top of t and d, and g is well-formed
+-- the graph that is read: a dominance edge that has stood before is left out
+
+abbrev added : List Edge → ℕ → ℕ → List Edge
+added d l r = cond (among d l r) d ((l, r) ∷ d)
+
+unfoldable once : ℕ → List Edge → List Edge → List EdgeCommand → Graph
+once n t d [] = record { nodes = n; tree = t; dominance = d }
+once n t d (tree-edge p c ∷ cs) = once n ((p, c) ∷ t) d cs
+once n t d (dominance-edge l r ∷ cs) = once n t (added d l r) cs
+
+-- the bytes after the first command spell commands that give g on top of t and d, and g is well-formed
 abbrev Spelt : ℕ → List Edge → List Edge → List ℕ → Graph → Type 0
-Spelt n t d bs g = (cs : List EdgeCommand) × (bs ≡ spelt cs) × (g ≡ written n t d cs) × WellFormed g
+Spelt n t d bs g = (cs : List EdgeCommand) × (bs ≡ spelt cs) × (g ≡ once n t d cs) × WellFormed g
 
 spelt-end : (n : ℕ) (t d : List Edge) (b : ℕ) (g : Graph) → Taken n t d → b ≡ 0 → whole (record { nodes = n; tree = t; dominance = d }) ≡ accepted g → Spelt n t d (b ∷ []) g
-unfolding spelt written
+unfolding spelt once
 spelt-end n t d b g k q e =
     let h : Graph = record { nodes = n; tree = t; dominance = d } in
     let same : g ≡ h = whole-same h g e in
     ([], rw q, same, subst WellFormed (sym same) (well-formed-of-whole h k (rw same at e)))
 
 spelt-tree : (n : ℕ) (t d : List Edge) (b x y : ℕ) (rest : List ℕ) (g : Graph) → b ≡ 2 → Spelt n ((x, y) ∷ t) d rest g → Spelt n t d (b ∷ x ∷ y ∷ rest) g
-unfolding spelt written
+unfolding spelt once
 spelt-tree n t d b x y rest g q r = (tree-edge x y ∷ r .0, rw (q, r .1), r .2, r .3)
 
-spelt-dominance : (n : ℕ) (t d : List Edge) (b x y : ℕ) (rest : List ℕ) (g : Graph) → b ≡ 3 → Spelt n t ((x, y) ∷ d) rest g → Spelt n t d (b ∷ x ∷ y ∷ rest) g
-unfolding spelt written
+spelt-dominance : (n : ℕ) (t d : List Edge) (b x y : ℕ) (rest : List ℕ) (g : Graph) → b ≡ 3 → Spelt n t (added d x y) rest g → Spelt n t d (b ∷ x ∷ y ∷ rest) g
+unfolding spelt once
 spelt-dominance n t d b x y rest g q r = (dominance-edge x y ∷ r .0, rw (q, r .1), r .2, r .3)
+
+-- a dominance edge that has stood before, or a new one
+spelt-added : (n : ℕ) (t d : List Edge) (x y : ℕ) (rest : List ℕ) (g : Graph) → Taken n t d → x < n → y < n
+    → (again more : Outcome) → cond (among d x y) again (cond (leb 255 (different d)) (refused TooMany) more) ≡ accepted g
+    → (again ≡ accepted g → Spelt n t d rest g) → (Taken n t ((x, y) ∷ d) → more ≡ accepted g → Spelt n t ((x, y) ∷ d) rest g) → Spelt n t (added d x y) rest g
+spelt-added n t d x y rest g k a b again more e stood fresh =
+    by-bool (among d x y)
+    (λ (f : among d x y ≡ true). rw f (stood (rw f at e)))
+    (λ (f : among d x y ≡ false).
+    let p = passed (leb 255 (different d)) TooMany more g (rw f at e) in
+    rw f (fresh (taken-dominance n t d x y k a b f (leb-false 255 (different d) (p .0))) (p .1)))
 
 commands-spelt : (n : ℕ) (t d : List Edge) (bs : List ℕ) (g : Graph) → Taken n t d → commands n t d bs ≡ accepted g → Spelt n t d bs g
 unfolding commands
@@ -121,14 +138,25 @@ commands-spelt n t d (b ∷ x ∷ []) g k e = absurd (not-refused (cond (takesTw
 commands-spelt n t d (b ∷ x ∷ y ∷ rest) g k e =
     by-bool (eqb b 2)
     (λ (z : eqb b 2 ≡ true).
-    let p = tree-passed n x y t (commands n ((x, y) ∷ t) d rest) g (rw z at e) in
-    spelt-tree n t d b x y rest g (eqb-true b 2 z) (commands-spelt n ((x, y) ∷ t) d rest g (taken-tree n t d x y k (p .0) (p .1) (p .2)) (p .3)))
+    let i = within-passed n x y _ g (rw z at e) in
+    let p = tree-passed x y t _ g (i .2) in
+    spelt-tree n t d b x y rest g (eqb-true b 2 z) (commands-spelt n ((x, y) ∷ t) d rest g (taken-tree n t d x y k (i .0) (i .1) (p .0)) (p .1)))
     (λ (z : eqb b 2 ≡ false).
     by-bool (eqb b 3)
     (λ (w : eqb b 3 ≡ true).
-    let p = dominance-passed n x y d (commands n t ((x, y) ∷ d) rest) g (rw (z, w) at e) in
-    spelt-dominance n t d b x y rest g (eqb-true b 3 w) (commands-spelt n t ((x, y) ∷ d) rest g (taken-dominance n t d x y k (p .0) (p .1) (p .2) (p .3)) (p .4)))
+    let i = within-passed n x y _ g (rw (z, w) at e) in
+    spelt-dominance n t d b x y rest g (eqb-true b 3 w)
+    (spelt-added n t d x y rest g k (i .0) (i .1) (commands n t d rest) (commands n t ((x, y) ∷ d) rest) (i .2)
+    (commands-spelt n t d rest g k) (commands-spelt n t ((x, y) ∷ d) rest g)))
     (λ (w : eqb b 3 ≡ false). absurd (not-refused Command g (rw (z, w) at e))))
+
+-- it has the nodes and edges written
+
+once-nodes : (n : ℕ) (t d : List Edge) (cs : List EdgeCommand) → once n t d cs .nodes ≡ n
+unfolding once
+once-nodes n t d [] = refl
+once-nodes n t d (tree-edge p c ∷ cs) = once-nodes n ((p, c) ∷ t) d cs
+once-nodes n t d (dominance-edge l r ∷ cs) = once-nodes n t (added d l r) cs
 
 written-nodes : (n : ℕ) (t d : List Edge) (cs : List EdgeCommand) → written n t d cs .nodes ≡ n
 unfolding written
@@ -136,8 +164,39 @@ written-nodes n t d [] = refl
 written-nodes n t d (tree-edge p c ∷ cs) = written-nodes n ((p, c) ∷ t) d cs
 written-nodes n t d (dominance-edge l r ∷ cs) = written-nodes n t ((l, r) ∷ d) cs
 
-first-command : (b n : ℕ) (rest : List ℕ) (g : Graph) → outcome (b ∷ n ∷ rest) ≡ accepted g → (b ≡ 1) × (2 ≤ n) × (n ≤ 128) × (commands n [] [] rest ≡ accepted g)
-unfolding outcome
+once-tree : (n : ℕ) (t d d′ : List Edge) (cs : List EdgeCommand) → once n t d cs .tree ≡ written n t d′ cs .tree
+unfolding once written
+once-tree n t d d′ [] = refl
+once-tree n t d d′ (tree-edge p c ∷ cs) = once-tree n ((p, c) ∷ t) d d′ cs
+once-tree n t d d′ (dominance-edge l r ∷ cs) = once-tree n t (added d l r) ((l, r) ∷ d′) cs
+
+added-among : (d : List Edge) (l r u v : ℕ) → among (added d l r) u v ≡ among ((l, r) ∷ d) u v
+added-among d l r u v =
+    by-bool (among d l r)
+    (λ (f : among d l r ≡ true).
+    rw f (test-ext (among d u v) (among ((l, r) ∷ d) u v) (among-rest (l, r) d u v)
+    (λ h. ⊎-elim (λ (b : (l ≡ u) × (r ≡ v)). rw (← b .0, ← b .1) f) (λ (a : among d u v ≡ true). a) (among-cases (l, r) d u v h))))
+    (λ (f : among d l r ≡ false). rw f)
+
+once-dominance : (n : ℕ) (t d d′ : List Edge) (cs : List EdgeCommand) → ((u v : ℕ) → among d u v ≡ among d′ u v)
+    → (u v : ℕ) → among (once n t d cs .dominance) u v ≡ among (written n t d′ cs .dominance) u v
+unfolding once written among
+once-dominance n t d d′ [] same = same
+once-dominance n t d d′ (tree-edge p c ∷ cs) same = once-dominance n ((p, c) ∷ t) d d′ cs same
+once-dominance n t d d′ (dominance-edge l r ∷ cs) same =
+    once-dominance n t (added d l r) ((l, r) ∷ d′) cs (λ u v. added-among d l r u v ∙ rw (same u v))
+
+once-agrees : (n : ℕ) (cs : List EdgeCommand) → Agree (once n [] [] cs) (spells n cs)
+unfolding spells
+once-agrees n cs =
+    record {
+      same-nodes = once-nodes n [] [] cs ∙ sym (written-nodes n [] [] cs);
+      same-tree = λ p c. ap (λ (t : List Edge). among t p c) (once-tree n [] [] [] cs);
+      same-dominance = once-dominance n [] [] [] cs (λ u v. refl);
+    }
+
+first-command : (b n : ℕ) (rest : List ℕ) (g : Graph) → allCommands (b ∷ n ∷ rest) ≡ accepted g → (b ≡ 1) × (2 ≤ n) × (n ≤ 128) × (commands n [] [] rest ≡ accepted g)
+unfolding allCommands
 first-command b n rest g e =
     by-bool (eqb b 1)
     (λ (z : eqb b 1 ≡ true).
@@ -148,62 +207,82 @@ first-command b n rest g e =
     (λ (w : (leb 2 n && leb n 128) ≡ false). absurd (not-refused Range g (rw (z, w) at e))))
     (λ (z : eqb b 1 ≡ false). absurd (not-refused Command g (rw z at e)))
 
-pub accepted-spells : (bs : List ℕ) (g : Graph) → outcome bs ≡ accepted g → (cs : List EdgeCommand) × (bs ≡ sheet (g .nodes) cs) × (g ≡ spells (g .nodes) cs) × WellFormed g
-unfolding outcome sheet spells
-accepted-spells [] g e = absurd (not-refused Missing g e)
-accepted-spells (b ∷ []) g e = absurd (not-refused (cond (eqb b 1) Missing Command) g e)
-accepted-spells (b ∷ n ∷ rest) g e =
+commands-accepted : (bs : List ℕ) (g : Graph) → allCommands bs ≡ accepted g → (cs : List EdgeCommand) × (bs ≡ sheet (g .nodes) cs) × (g ≡ once (g .nodes) [] [] cs) × WellFormed g
+unfolding allCommands sheet
+commands-accepted [] g e = absurd (not-refused Missing g e)
+commands-accepted (b ∷ []) g e = absurd (not-refused (cond (eqb b 1) Missing Command) g e)
+commands-accepted (b ∷ n ∷ rest) g e =
     let f = first-command b n rest g e in
     let r = commands-spelt n [] [] rest g (taken-none n (f .1) (f .2)) (f .3) in
     let cs : List EdgeCommand = r .0 in
-    let same : g .nodes ≡ n = ap (λ (h : Graph). h .nodes) (r .2) ∙ written-nodes n [] [] cs in
-    (cs, cc, r .2 ∙ ap (λ (m : ℕ). written m [] [] cs) (sym same), r .3)
+    let same : g .nodes ≡ n = ap (λ (h : Graph). h .nodes) (r .2) ∙ once-nodes n [] [] cs in
+    (cs, cc, r .2 ∙ ap (λ (m : ℕ). once m [] [] cs) (sym same), r .3)
+
+once-well-formed : (n : ℕ) (cs : List EdgeCommand) → WellFormed (once n [] [] cs) → WellFormed (spells n cs)
+unfolding spells
+once-well-formed n cs w = well-formed-agree (once n [] [] cs) (written n [] [] cs) (once-agrees n cs) w (rw (← once-tree n [] [] [] cs) (w .one-parent))
+
+pub accepted-spells : (bs : List ℕ) (g : Graph) → outcome bs ≡ accepted g
+    → (cs : List EdgeCommand) × (bs ≡ sheet (g .nodes) cs) × Agree g (spells (g .nodes) cs) × WellFormed g × WellFormed (spells (g .nodes) cs) × (length bs ≤ longest)
+accepted-spells bs g e =
+    let s = accepted-short bs g e in
+    let r = commands-accepted bs g (s .1) in
+    let agrees : Agree g (spells (g .nodes) (r .0)) = subst (λ (h : Graph). Agree h (spells (g .nodes) (r .0))) (sym (r .2)) (once-agrees (g .nodes) (r .0)) in
+    (r .0, r .1, agrees, r .3, once-well-formed (g .nodes) (r .0) (subst WellFormed (r .2) (r .3)), s .0)
 
 pub accepted-well-formed : (bs : List ℕ) (g : Graph) → outcome bs ≡ accepted g → WellFormed g
 accepted-well-formed bs g e = accepted-spells bs g e .3
 
--- what held of the lists before the commands wrote on top of them
+-- what held of the lists before the commands put edges on top of them
 
-tree-kept : (n : ℕ) (t d : List Edge) (cs : List EdgeCommand) (u v : ℕ) → among t u v ≡ true → among (written n t d cs .tree) u v ≡ true
-unfolding written
+tree-kept : (n : ℕ) (t d : List Edge) (cs : List EdgeCommand) (u v : ℕ) → among t u v ≡ true → among (once n t d cs .tree) u v ≡ true
+unfolding once
 tree-kept n t d [] u v h = h
 tree-kept n t d (tree-edge p c ∷ cs) u v h = tree-kept n ((p, c) ∷ t) d cs u v (among-rest (p, c) t u v h)
-tree-kept n t d (dominance-edge l r ∷ cs) u v h = tree-kept n t ((l, r) ∷ d) cs u v h
+tree-kept n t d (dominance-edge l r ∷ cs) u v h = tree-kept n t (added d l r) cs u v h
 
-dominance-kept : (n : ℕ) (t d : List Edge) (cs : List EdgeCommand) (u v : ℕ) → among d u v ≡ true → among (written n t d cs .dominance) u v ≡ true
-unfolding written
+dominance-kept : (n : ℕ) (t d : List Edge) (cs : List EdgeCommand) (u v : ℕ) → among d u v ≡ true → among (once n t d cs .dominance) u v ≡ true
+unfolding once
 dominance-kept n t d [] u v h = h
 dominance-kept n t d (tree-edge p c ∷ cs) u v h = dominance-kept n ((p, c) ∷ t) d cs u v h
-dominance-kept n t d (dominance-edge l r ∷ cs) u v h = dominance-kept n t ((l, r) ∷ d) cs u v (among-rest (l, r) d u v h)
+dominance-kept n t d (dominance-edge l r ∷ cs) u v h = dominance-kept n t (added d l r) cs u v (added-among d l r u v ∙ among-rest (l, r) d u v h)
 
-single-before : (n : ℕ) (t d : List Edge) (cs : List EdgeCommand) → single (written n t d cs .tree) ≡ true → single t ≡ true
-unfolding written
+single-before : (n : ℕ) (t d : List Edge) (cs : List EdgeCommand) → single (once n t d cs .tree) ≡ true → single t ≡ true
+unfolding once
 single-before n t d [] h = h
 single-before n t d (tree-edge p c ∷ cs) h = single-cons (p, c) t (single-before n ((p, c) ∷ t) d cs h) .1
-single-before n t d (dominance-edge l r ∷ cs) h = single-before n t ((l, r) ∷ d) cs h
+single-before n t d (dominance-edge l r ∷ cs) h = single-before n t (added d l r) cs h
 
-distinct-before : (n : ℕ) (t d : List Edge) (cs : List EdgeCommand) → distinct (written n t d cs .dominance) ≡ true → distinct d ≡ true
-unfolding written
-distinct-before n t d [] h = h
-distinct-before n t d (tree-edge p c ∷ cs) h = distinct-before n ((p, c) ∷ t) d cs h
-distinct-before n t d (dominance-edge l r ∷ cs) h = distinct-cons (l, r) d (distinct-before n t ((l, r) ∷ d) cs h) .1
+different-added : (d : List Edge) (l r : ℕ) → different d ≤ different (added d l r)
+unfolding different
+different-added d l r =
+    by-bool (among d l r)
+    (λ (f : among d l r ≡ true). rw f (omega arith))
+    (λ (f : among d l r ≡ false). rw (f, f) (omega arith))
 
-length-before : (n : ℕ) (t d : List Edge) (cs : List EdgeCommand) → length d ≤ length (written n t d cs .dominance)
-unfolding written
-length-before n t d [] = omega arith
-length-before n t d (tree-edge p c ∷ cs) = length-before n ((p, c) ∷ t) d cs
-length-before n t d (dominance-edge l r ∷ cs) = omega (arith, length-before n t ((l, r) ∷ d) cs)
+different-before : (n : ℕ) (t d : List Edge) (cs : List EdgeCommand) → different d ≤ different (once n t d cs .dominance)
+unfolding once
+different-before n t d [] = omega arith
+different-before n t d (tree-edge p c ∷ cs) = different-before n ((p, c) ∷ t) d cs
+different-before n t d (dominance-edge l r ∷ cs) = omega (arith, different-added d l r, different-before n t (added d l r) cs)
 
 pub within-beyond : (n x y : ℕ) → x < n → y < n → beyond n x y ≡ false
 unfolding beyond
 within-beyond n x y a b = rw (lt-leb n x a, lt-leb n y b)
 
-spelt-accepted : (n : ℕ) (t d : List Edge) (cs : List EdgeCommand) → WellFormed (written n t d cs) → commands n t d (spelt cs) ≡ accepted (written n t d cs)
-unfolding commands spelt written
+-- a new edge finds room
+room : (n : ℕ) (t d : List Edge) (l r : ℕ) (cs : List EdgeCommand) → WellFormed (once n t ((l, r) ∷ d) cs) → among d l r ≡ false → leb 255 (different d) ≡ false
+unfolding different
+room n t d l r cs w f =
+    let more : different ((l, r) ∷ d) ≤ different (once n t ((l, r) ∷ d) cs .dominance) = different-before n t ((l, r) ∷ d) cs in
+    lt-leb 255 (different d) (omega (arith, (rw f at more), w .few-edges))
+
+spelt-accepted : (n : ℕ) (t d : List Edge) (cs : List EdgeCommand) → WellFormed (once n t d cs) → commands n t d (spelt cs) ≡ accepted (once n t d cs)
+unfolding commands spelt once
 spelt-accepted n t d [] w = whole-of-well-formed (record { nodes = n; tree = t; dominance = d }) w
 spelt-accepted n t d (tree-edge p c ∷ cs) w =
-    let g : Graph = written n ((p, c) ∷ t) d cs in
-    let same : g .nodes ≡ n = written-nodes n ((p, c) ∷ t) d cs in
+    let g : Graph = once n ((p, c) ∷ t) d cs in
+    let same : g .nodes ≡ n = once-nodes n ((p, c) ∷ t) d cs in
     let kept : TreeEdge g p c = tree-kept n ((p, c) ∷ t) d cs p c (among-first (p, c) t p c refl refl) in
     let b = w .tree-within p c kept in
     let inside : beyond n p c ≡ false = within-beyond n p c (omega arith) (omega arith) in
@@ -211,18 +290,34 @@ spelt-accepted n t d (tree-edge p c ∷ cs) w =
     let fresh : entered t c ≡ false = single-cons (p, c) t (single-before n ((p, c) ∷ t) d cs (w .one-parent)) .0 in
     rw (inside, apart, fresh) (spelt-accepted n ((p, c) ∷ t) d cs w)
 spelt-accepted n t d (dominance-edge l r ∷ cs) w =
-    let g : Graph = written n t ((l, r) ∷ d) cs in
-    let same : g .nodes ≡ n = written-nodes n t ((l, r) ∷ d) cs in
-    let b = dominance-within g w l r (dominance-kept n t ((l, r) ∷ d) cs l r (among-first (l, r) d l r refl refl)) in
+    let g : Graph = once n t (added d l r) cs in
+    let same : g .nodes ≡ n = once-nodes n t (added d l r) cs in
+    let b = dominance-within g w l r (dominance-kept n t (added d l r) cs l r (added-among d l r l r ∙ among-first (l, r) d l r refl refl)) in
     let inside : beyond n l r ≡ false = within-beyond n l r (omega arith) (omega arith) in
-    let fresh : among d l r ≡ false = distinct-cons (l, r) d (distinct-before n t ((l, r) ∷ d) cs (w .all-different)) .0 in
-    let room : leb 255 (length d) ≡ false = lt-leb 255 (length d) (omega (arith, length-before n t ((l, r) ∷ d) cs, w .few-edges)) in
-    rw (inside, fresh, room) (spelt-accepted n t ((l, r) ∷ d) cs w)
+    by-bool (among d l r)
+    (λ (f : among d l r ≡ true). rw (inside, f) (spelt-accepted n t d cs (rw f at w)))
+    (λ (f : among d l r ≡ false).
+    let v : WellFormed (once n t ((l, r) ∷ d) cs) = rw f at w in
+    rw (inside, f, room n t d l r cs v f) (spelt-accepted n t ((l, r) ∷ d) cs v))
 
-pub spells-accepted : (n : ℕ) (cs : List EdgeCommand) → WellFormed (spells n cs) → outcome (sheet n cs) ≡ accepted (spells n cs)
-unfolding outcome sheet spells
-spells-accepted n cs w =
-    let same : spells n cs .nodes ≡ n = written-nodes n [] [] cs in
-    let some : leb 2 n ≡ true = le-leb 2 n (omega (arith, w .some-nodes)) in
-    let few : leb n 128 ≡ true = le-leb n 128 (omega (arith, w .few-nodes)) in
-    rw (some, few) (spelt-accepted n [] [] cs w)
+pub spells-accepted : (n : ℕ) (cs : List EdgeCommand) → WellFormed (spells n cs) → length (sheet n cs) ≤ longest → (g : Graph) × (outcome (sheet n cs) ≡ accepted g) × Agree g (spells n cs)
+unfolding allCommands sheet spells
+spells-accepted n cs w short =
+    let g : Graph = once n [] [] cs in
+    let k : Agree g (written n [] [] cs) = once-agrees n cs in
+    let v : WellFormed g = well-formed-agree (written n [] [] cs) g (agree-sym g (written n [] [] cs) k) w (rw (once-tree n [] [] [] cs) (w .one-parent)) in
+    let same : g .nodes ≡ n = once-nodes n [] [] cs in
+    let some : leb 2 n ≡ true = le-leb 2 n (omega (arith, v .some-nodes)) in
+    let few : leb n 128 ≡ true = le-leb n 128 (omega (arith, v .few-nodes)) in
+    (g, short-enough (1 ∷ n ∷ spelt cs) short ∙ rw (some, few) (spelt-accepted n [] [] cs v), k)
+
+-- accepted exactly when well-formed
+pub accepted-exactly : (bs : List ℕ) → ((g : Graph) × (outcome bs ≡ accepted g)) ↔ WellFormedSheet bs
+accepted-exactly bs = (
+  λ (a : (g : Graph) × (outcome bs ≡ accepted g)).
+      let s = accepted-spells bs (a .0) (a .1) in
+      (a .0 .nodes, s .0, s .1, s .4, s .5),
+  λ (v : WellFormedSheet bs).
+      let r = spells-accepted (v .0) (v .1) (v .3) (subst (λ (l : List ℕ). length l ≤ longest) (v .2) (v .4)) in
+      (r .0, ap outcome (v .2) ∙ r .1),
+)

@@ -1,24 +1,27 @@
--- The tidy sheet. It spells the commands of the graph's edges in tidy order, so it is accepted, with the same nodes and
--- edges; graphs that agree have one tidy sheet, and graphs with one tidy sheet agree. So the tidy sheet of the tidy
+-- The tidy sheet. It spells the commands of the graph's edges in tidy order, each once, so it is accepted, with the same nodes
+-- and edges; graphs that agree have one tidy sheet, and graphs with one tidy sheet agree. So the tidy sheet of the tidy
 -- sheet is itself.
-use Prim.Native.Nat.{ℕ, zero, suc, _+_, _*_}
+use Prim.Native.Nat.{ℕ, zero, suc, _+_, _*_, _≤_, _<_}
 use mathlib.Core.Path.{_≡_, refl, sym, ap, subst, _∙_}
 use mathlib.Core.List.{List, [], _∷_, _++_, map, reverse, reverseAux, append-assoc}
 use mathlib.Core.Bool.{Bool, true, false, cond}
 use mathlib.Core.Logic.{_↔_}
 use native.Mathlib.Omega.{arith}
-use lib.ListN.{length, length-append, length-reverse}
+use lib.ListN.{length, length-append}
 use Rattle.base_finite.specs.Below.{count, spread}
-use Rattle.base_finite.proofs.Laws.{by-bool, spread-ext, count-none, count-one-more, not-holding, test-ext}
-use Rattle.graph.specs.Graph.{Edge, Graph, among, entered, distinct, single, parent, WellFormed, Agree}
-use Rattle.format.specs.Sheet.{accepted, outcome, EdgeCommand, tree-edge, dominance-edge, spelt, written, sheet, spells, tidyTree, tidyDominance, tidy}
-use Rattle.theory_edges.specs.Edges.{Within, sum}
-use Rattle.theory_edges.proofs.Edges.{among-unentered, parent-among, parent-only, one-parent, sum-ext, same-length}
+use Rattle.base_finite.proofs.Laws.{by-bool, spread-ext, count-le, count-none, count-one-more, not-holding, test-ext}
+use Rattle.base_finite.proofs.Counting.{count-grows}
+use Rattle.graph.specs.Graph.{Edge, Graph, among, different, entered, single, root, parent, own, WellFormed, Agree}
+use Rattle.format.specs.Sheet.{accepted, longest, outcome, EdgeCommand, tree-edge, dominance-edge, spelt, written, sheet, spells, tidyTree, tidyDominance, tidy}
+use Rattle.theory_edges.specs.Edges.{Within, distinct, sum}
+use Rattle.theory_edges.proofs.Edges.{among-unentered, parent-among, parent-only, one-parent, sum-ext, different-same, different-short, distinct-different}
 use Rattle.theory_format.proofs.Whole.{accepted-same}
-use Rattle.theory_format.proofs.Spelling.{accepted-well-formed, spells-accepted}
-use Rattle.theory_edges.proofs.Ends.{dominance-within}
+use Rattle.theory_format.proofs.Spelling.{accepted-spells, accepted-well-formed, spells-accepted}
+use Rattle.theory_edges.proofs.Ends.{dominance-within, root-below}
 use Rattle.theory_edges.proofs.Tables.{among-reverse, distinct-reverse, single-of-distinct, cell, row, table, among-table, table-among, distinct-table, length-table}
 use Rattle.theory_edges.proofs.Agreement.{agree-sym, agree-trans, well-formed-agree}
+use Rattle.theory_forest.proofs.Shape.{well-formed-shaped}
+use Rattle.theory_forest.proofs.Fragments.{root-unentered, own-root}
 
 -- the edges in tidy order
 
@@ -161,56 +164,19 @@ tidied-agrees g w =
       same-dominance = λ l r. sym (among-reverse (dominanceEdges g) l r ∙ dominance-edges-among g (dominance-within g w) l r);
     }
 
-dominance-edges-length : (g : Graph) → WellFormed g → length (dominanceEdges g) ≡ length (g .dominance)
+dominance-edges-length : (g : Graph) → WellFormed g → length (dominanceEdges g) ≡ different (g .dominance)
 dominance-edges-length g w =
-    let n : ℕ = g .nodes in
-    let same : (l r : ℕ) → among (dominanceEdges g) l r ≡ among (g .dominance) l r = dominance-edges-among g (dominance-within g w) in
-    same-length n (dominanceEdges g) (g .dominance) (dominance-edges-distinct g) (w .all-different) (λ l r h. dominance-within g w l r (sym (same l r) ∙ h)) (dominance-within g w) same
+    let within : Within (g .nodes) (g .dominance) = dominance-within g w in
+    sym (distinct-different (dominanceEdges g) (dominance-edges-distinct g))
+    ∙ sym (different-same (g .nodes) (g .dominance) (dominanceEdges g) within (λ l r. sym (dominance-edges-among g within l r)))
 
 pub tidied-well-formed : (g : Graph) → WellFormed g → WellFormed (tidied g)
 unfolding tidied
 tidied-well-formed g w =
     let k : Agree g (tidied g) = tidied-agrees g w in
-    let different : distinct (reverse (treeEdges g)) ≡ true = distinct-reverse (treeEdges g) (tree-edges-distinct g) in
+    let once : distinct (reverse (treeEdges g)) ≡ true = distinct-reverse (treeEdges g) (tree-edges-distinct g) in
     well-formed-agree g (tidied g) k w
-    (single-of-distinct (reverse (treeEdges g)) different (λ p q c h i. one-parent (g .tree) p q c (w .one-parent) (k .same-tree p c ∙ h) (k .same-tree q c ∙ i)))
-    (omega (arith, length-reverse (dominanceEdges g), dominance-edges-length g w, w .few-edges))
-    (distinct-reverse (dominanceEdges g) (dominance-edges-distinct g))
-
-pub tidy-accepted : (g : Graph) → WellFormed g → (h : Graph) × (outcome (tidy g) ≡ accepted h) × Agree g h
-tidy-accepted g w =
-    let same : spells (g .nodes) (tidyCommands g) ≡ tidied g = spells-tidied g in
-    let reads : outcome (sheet (g .nodes) (tidyCommands g)) ≡ accepted (spells (g .nodes) (tidyCommands g)) = spells-accepted (g .nodes) (tidyCommands g) (subst WellFormed (sym same) (tidied-well-formed g w)) in
-    (tidied g, ap outcome (tidy-spells g) ∙ reads ∙ ap accepted same, tidied-agrees g w)
-
-spread-same : (n m : ℕ) (p q : ℕ → ℕ → Bool) (f : ℕ → ℕ → List ℕ) → n ≡ m → ((i j : ℕ) → p i j ≡ q i j) → spread n (λ i. spread n (λ j. cond (p i j) (f i j) [])) ≡ spread m (λ i. spread m (λ j. cond (q i j) (f i j) []))
-spread-same n m p q f e same =
-    spread-ext n (λ i. spread n (λ j. cond (p i j) (f i j) [])) (λ i. spread n (λ j. cond (q i j) (f i j) []))
-    (λ i _. spread-ext n (λ j. cond (p i j) (f i j) []) (λ j. cond (q i j) (f i j) []) (λ j _. rw (same i j)))
-    ∙ ap (λ (k : ℕ). spread k (λ i. spread k (λ j. cond (q i j) (f i j) []))) e
-
-pub tidy-same : (g h : Graph) → Agree g h → tidy g ≡ tidy h
-unfolding tidy tidyTree tidyDominance
-tidy-same g h k =
-    let trees : tidyTree g ≡ tidyTree h = spread-same (g .nodes) (h .nodes) (λ c p. among (g .tree) p c) (λ c p. among (h .tree) p c) (λ c p. 2 ∷ p ∷ c ∷ []) (k .same-nodes) (λ c p. k .same-tree p c) in
-    let dominances : tidyDominance g ≡ tidyDominance h = spread-same (g .nodes) (h .nodes) (among (g .dominance)) (among (h .dominance)) (λ l r. 3 ∷ l ∷ r ∷ []) (k .same-nodes) (k .same-dominance) in
-    cc
-
-pub tidy-twice : (bs : List ℕ) (g h : Graph) → outcome bs ≡ accepted g → outcome (tidy g) ≡ accepted h → tidy h ≡ tidy g
-tidy-twice bs g h e f =
-    let r = tidy-accepted g (accepted-well-formed bs g e) in
-    let same : h ≡ r .0 = accepted-same h (r .0) (sym f ∙ r .1) in
-    ap tidy same ∙ sym (tidy-same g (r .0) (r .2))
-
-pub one-tidy-form : (bs cs : List ℕ) (g h : Graph) → outcome bs ≡ accepted g → outcome cs ≡ accepted h → (tidy g ≡ tidy h) ↔ Agree g h
-one-tidy-form bs cs g h e f =
-    let r = tidy-accepted g (accepted-well-formed bs g e) in
-    let s = tidy-accepted h (accepted-well-formed cs h f) in (
-      λ q.
-          let same : r .0 ≡ s .0 = accepted-same (r .0) (s .0) (sym (r .1) ∙ ap outcome q ∙ s .1) in
-          agree-trans g (s .0) h (subst (Agree g) same (r .2)) (agree-sym h (s .0) (s .2)),
-      tidy-same g h,
-    )
+    (single-of-distinct (reverse (treeEdges g)) once (λ p q c h i. one-parent (g .tree) p q c (w .one-parent) (k .same-tree p c ∙ h) (k .same-tree q c ∙ i)))
 
 -- the length
 
@@ -238,9 +204,110 @@ tree-edges-length g w =
     ∙ sum-ext n (λ c. count n (λ p. among t p c)) (λ c. cond (entered t c) 1 0) (λ c _. column-count n t c (w .tree-within) (w .one-parent))
     ∙ sum-count n (entered t)
 
-pub tidy-length : (g : Graph) → WellFormed g → length (tidy g) ≡ 3 + 3 * (count (g .nodes) (entered (g .tree))) + 3 * length (g .dominance)
+pub tidy-length : (g : Graph) → WellFormed g → length (tidy g) ≡ 3 + 3 * (count (g .nodes) (entered (g .tree))) + 3 * different (g .dominance)
 unfolding tidy
 tidy-length g w =
     let trees : length (tidyTree g) ≡ 3 * length (treeEdges g) = ap length (tidy-tree g) ∙ length-triples 2 (treeEdges g) in
     let dominances : length (tidyDominance g) ≡ 3 * length (dominanceEdges g) = ap length (tidy-dominance g) ∙ length-triples 3 (dominanceEdges g) in
     omega (arith, length-append (tidyTree g ++ tidyDominance g) (0 ∷ []), length-append (tidyTree g) (tidyDominance g), tree-edges-length g w, dominance-edges-length g w)
+
+-- some node has no parent: the root of node 0's fragment
+few-parents : (g : Graph) → WellFormed g → count (g .nodes) (entered (g .tree)) < g .nodes
+few-parents g w =
+    let top : ℕ = own g 0 in
+    let is-root : root g top ≡ true = own-root g (well-formed-shaped w) 0 (omega (arith, w .some-nodes)) in
+    omega (arith, count-le (g .nodes) (λ _. true), count-grows (g .nodes) (entered (g .tree)) (λ _. true) top (λ k l h. refl) (root-below g top is-root) (root-unentered g top is-root) refl)
+
+-- so many bytes have room for it: 127 tree edges and 255 dominance edges at most
+pub tidy-room : (g : Graph) → WellFormed g → length (tidy g) ≤ 1149
+tidy-room g w = omega (arith, tidy-length g w, few-parents g w, w .few-nodes, w .few-edges)
+
+-- "tidying changes no node and no edge"
+pub tidy-accepted : (g : Graph) → WellFormed g → (h : Graph) × (outcome (tidy g) ≡ accepted h) × Agree g h
+tidy-accepted g w =
+    let n : ℕ = g .nodes in
+    let cs : List EdgeCommand = tidyCommands g in
+    let same : spells n cs ≡ tidied g = spells-tidied g in
+    let short : length (sheet n cs) ≤ longest = subst (λ (l : List ℕ). length l ≤ longest) (tidy-spells g) (omega (arith, tidy-room g w)) in
+    let r = spells-accepted n cs (subst WellFormed (sym same) (tidied-well-formed g w)) short in
+    (r .0, ap outcome (tidy-spells g) ∙ r .1, agree-trans g (tidied g) (r .0) (tidied-agrees g w) (agree-sym (r .0) (tidied g) (subst (Agree (r .0)) same (r .2))))
+
+-- 02, One: "tidying keeps the set of edges", of what the sheet and its tidy sheet write, however often
+pub tidy-keeps : (bs : List ℕ) (g : Graph) → outcome bs ≡ accepted g
+    → (cs : List EdgeCommand) × (ds : List EdgeCommand) × (bs ≡ sheet (g .nodes) cs) × (tidy g ≡ sheet (g .nodes) ds) × Agree (spells (g .nodes) cs) (spells (g .nodes) ds)
+tidy-keeps bs g e =
+    let s = accepted-spells bs g e in
+    let written-so : Graph = spells (g .nodes) (s .0) in
+    let same : spells (g .nodes) (tidyCommands g) ≡ tidied g = spells-tidied g in
+    (s .0, tidyCommands g, s .1, tidy-spells g, subst (Agree written-so) (sym same) (agree-trans written-so g (tidied g) (agree-sym g written-so (s .2)) (tidied-agrees g (s .3))))
+
+-- 02, One: "The tidy sheet has each edge once"
+pub each-edge-once : (g : Graph)
+    → (cs : List EdgeCommand) × (tidy g ≡ sheet (g .nodes) cs) × (distinct (spells (g .nodes) cs .tree) ≡ true) × (distinct (spells (g .nodes) cs .dominance) ≡ true)
+unfolding tidied
+each-edge-once g =
+    let same : spells (g .nodes) (tidyCommands g) ≡ tidied g = spells-tidied g in
+    (tidyCommands g, tidy-spells g, rw same (distinct-reverse (treeEdges g) (tree-edges-distinct g)), rw same (distinct-reverse (dominanceEdges g) (dominance-edges-distinct g)))
+
+spread-same : (n m : ℕ) (p q : ℕ → ℕ → Bool) (f : ℕ → ℕ → List ℕ) → n ≡ m → ((i j : ℕ) → p i j ≡ q i j) → spread n (λ i. spread n (λ j. cond (p i j) (f i j) [])) ≡ spread m (λ i. spread m (λ j. cond (q i j) (f i j) []))
+spread-same n m p q f e same =
+    spread-ext n (λ i. spread n (λ j. cond (p i j) (f i j) [])) (λ i. spread n (λ j. cond (q i j) (f i j) []))
+    (λ i _. spread-ext n (λ j. cond (p i j) (f i j) []) (λ j. cond (q i j) (f i j) []) (λ j _. rw (same i j)))
+    ∙ ap (λ (k : ℕ). spread k (λ i. spread k (λ j. cond (q i j) (f i j) []))) e
+
+pub tidy-same : (g h : Graph) → Agree g h → tidy g ≡ tidy h
+unfolding tidy tidyTree tidyDominance
+tidy-same g h k =
+    let trees : tidyTree g ≡ tidyTree h = spread-same (g .nodes) (h .nodes) (λ c p. among (g .tree) p c) (λ c p. among (h .tree) p c) (λ c p. 2 ∷ p ∷ c ∷ []) (k .same-nodes) (λ c p. k .same-tree p c) in
+    let dominances : tidyDominance g ≡ tidyDominance h = spread-same (g .nodes) (h .nodes) (among (g .dominance)) (among (h .dominance)) (λ l r. 3 ∷ l ∷ r ∷ []) (k .same-nodes) (k .same-dominance) in
+    cc
+
+-- a tidy sheet is no longer than a sheet that it comes from
+
+written-length : (n : ℕ) (t d : List Edge) (cs : List EdgeCommand) → length (written n t d cs .tree) + length (written n t d cs .dominance) ≡ length t + length d + length cs
+unfolding written
+written-length n t d [] = omega arith
+written-length n t d (tree-edge p c ∷ cs) = omega (arith, written-length n ((p, c) ∷ t) d cs)
+written-length n t d (dominance-edge l r ∷ cs) = omega (arith, written-length n t ((l, r) ∷ d) cs)
+
+spelt-length : (cs : List EdgeCommand) → length (spelt cs) ≡ 1 + 3 * length cs
+unfolding spelt
+spelt-length [] = refl
+spelt-length (tree-edge p c ∷ cs) = omega (arith, spelt-length cs)
+spelt-length (dominance-edge l r ∷ cs) = omega (arith, spelt-length cs)
+
+tree-edges-few : (g : Graph) → WellFormed g → count (g .nodes) (entered (g .tree)) ≤ length (g .tree)
+tree-edges-few g w =
+    let same : different (g .tree) ≡ different (treeEdges g) = different-same (g .nodes) (g .tree) (treeEdges g) (w .tree-within) (λ p c. sym (tree-edges-among g (w .tree-within) p c)) in
+    omega (arith, tree-edges-length g w, distinct-different (treeEdges g) (tree-edges-distinct g), same, different-short (g .tree))
+
+tidy-spelt : (n : ℕ) (cs : List EdgeCommand) → WellFormed (spells n cs) → length (tidy (spells n cs)) ≤ length (sheet n cs)
+unfolding spells sheet
+tidy-spelt n cs w =
+    let g : Graph = written n [] [] cs in
+    omega (arith, tidy-length g w, tree-edges-few g w, different-short (g .dominance), written-length n [] [] cs, spelt-length cs)
+
+pub tidy-no-longer : (bs : List ℕ) (g : Graph) → outcome bs ≡ accepted g → length (tidy g) ≤ length bs
+tidy-no-longer bs g e =
+    let s = accepted-spells bs g e in
+    let n : ℕ = g .nodes in
+    let cs : List EdgeCommand = s .0 in
+    let same : length (tidy g) ≡ length (tidy (spells n cs)) = ap length (tidy-same g (spells n cs) (s .2)) in
+    let bytes : length bs ≡ length (sheet n cs) = ap length (s .1) in
+    omega (arith, same, bytes, tidy-spelt n cs (s .4))
+
+pub tidy-twice : (bs : List ℕ) (g h : Graph) → outcome bs ≡ accepted g → outcome (tidy g) ≡ accepted h → tidy h ≡ tidy g
+tidy-twice bs g h e f =
+    let r = tidy-accepted g (accepted-well-formed bs g e) in
+    let same : h ≡ r .0 = accepted-same h (r .0) (sym f ∙ r .1) in
+    ap tidy same ∙ sym (tidy-same g (r .0) (r .2))
+
+pub one-tidy-form : (bs cs : List ℕ) (g h : Graph) → outcome bs ≡ accepted g → outcome cs ≡ accepted h → (tidy g ≡ tidy h) ↔ Agree g h
+one-tidy-form bs cs g h e f =
+    let r = tidy-accepted g (accepted-well-formed bs g e) in
+    let s = tidy-accepted h (accepted-well-formed cs h f) in (
+      λ q.
+          let same : r .0 ≡ s .0 = accepted-same (r .0) (s .0) (sym (r .1) ∙ ap outcome q ∙ s .1) in
+          agree-trans g (s .0) h (subst (Agree g) same (r .2)) (agree-sym h (s .0) (s .2)),
+      tidy-same g h,
+    )

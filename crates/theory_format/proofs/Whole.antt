@@ -6,11 +6,10 @@ use mathlib.Core.Path.{_≡_, refl, sym, _∙_}
 use mathlib.Core.List.{List}
 use mathlib.Core.Bool.{Bool, true, false, cond, not, _&&_, _||_, true≢false}
 use native.Mathlib.Omega.{arith}
-use lib.ListN.{length}
 use borrow.Author.Tests.{not-false}
 use Rattle.base_finite.specs.Below.{any}
 use Rattle.base_finite.proofs.Laws.{by-bool, and-both, any-none, any-false, not-holding}
-use Rattle.graph.specs.Graph.{Edge, Graph, among, entered, left, distinct, single, root, leaf, DominanceEdge, WellFormed, cyclic}
+use Rattle.graph.specs.Graph.{Edge, Graph, among, different, entered, left, single, root, leaf, DominanceEdge, WellFormed, cyclic}
 use Rattle.format.specs.Sheet.{Outcome, refused, accepted, bare, astray, whole}
 use Rattle.format.specs.declared.Refusal.{Refusal}
 use Rattle.format.specs.declared.Refusal.the-variants.{Tree, Bare, Ends}
@@ -23,8 +22,7 @@ pub record Taken (n : ℕ) (t d : List Edge) : Type 0 where
   pub tree-within : Within n t
   pub one-parent : single t ≡ true
   pub dominance-within : Within n d
-  pub few-edges : length d ≤ 255
-  pub all-different : distinct d ≡ true
+  pub few-edges : different d ≤ 255
 
 pub not-refused : (x : Refusal) (g : Graph) → refused x ≡ accepted g → ⊥
 not-refused x g e = let z : _≡_ {A = ℕ} 0 1 = cc in omega arith
@@ -85,7 +83,6 @@ well-formed-of-whole g k e =
       on-tree-edge = on-tree-edge-of g (p .1);
       leaf-to-root = leaf-to-root-of g (k .dominance-within) (p .2);
       few-edges = k .few-edges;
-      all-different = k .all-different;
     }
 
 pub whole-of-well-formed : (g : Graph) → WellFormed g → whole g ≡ accepted g

@@ -1,12 +1,14 @@
 //! Damaged sheets.
 use differential::random::Random;
+use differential::sheet::LONGEST;
+use differential::sheets::repeating;
 
 /// The sheet with one thing wrong, or right by chance.
 pub fn damaged(random: &mut Random, sheet: &[u8]) -> Vec<u8> {
     let mut bytes = sheet.to_vec();
     let commands = (sheet.len() - 3) / 3;
     let at = random.below(bytes.len());
-    match random.below(12) {
+    match random.below(13) {
         0 => bytes[at] ^= 1 << random.below(8),
         1 => bytes[at] = random.byte(),
         2 => bytes[at] = random.byte() % 6,
@@ -29,6 +31,14 @@ pub fn damaged(random: &mut Random, sheet: &[u8]) -> Vec<u8> {
                 let (leaf, root) = (random.pick(&edges)[1], random.pick(&edges)[2]);
                 let end = bytes.len() - 1;
                 bytes.splice(end..end, [3, leaf, root]);
+            }
+        }
+        // About as long as a sheet may be, by repeats, and then perhaps by bytes more or fewer at the end.
+        10 => {
+            let times = LONGEST.saturating_sub(sheet.len()) / 3 + random.below(3);
+            bytes = repeating(random, sheet, times);
+            if random.once_in(2) {
+                bytes.resize(random.between(LONGEST - 2, LONGEST + 2), 0);
             }
         }
         // A command turned round, or of the other kind.

@@ -1,4 +1,4 @@
-//! What document 01 says of a sheet and of each call on it.
+//! What documents 01 and 02 say of a sheet and of each call on it.
 use differential::graph::Graph;
 use differential::listing::{self, Leave};
 use differential::placing::{self, Answers};

@@ -1,4 +1,4 @@
-//! Every call of the library, held against the implementation of document 01 in this package.
+//! Every call of the library, held against the implementation of documents 01 and 02 in this package.
 mod calls;
 mod checks;
 mod cycles;
@@ -18,7 +18,9 @@ pub use trial::{try_any, try_damaged};
 
 use differential::random::Random;
 use differential::sheet;
-use differential::sheets::{chain, crowded_graph, random_fork, random_graph, shuffled, side_by_side, untidy};
+use differential::sheets::{
+    chain, crowded_graph, random_fork, random_graph, repeating, shuffled, side_by_side, untidy,
+};
 
 /// Random sheet number `index`, which the seed fixes.
 pub fn random_sheet(random: &mut Random, index: u64) -> Vec<u8> {
@@ -41,8 +43,14 @@ pub fn random_sheet(random: &mut Random, index: u64) -> Vec<u8> {
             Err(_) => random_graph(random, 128),
         },
     };
-    if random.once_in(4) {
-        return sheet::tidy(&graph);
+    let bytes = if random.once_in(4) { sheet::tidy(&graph) } else { untidy(random, &graph) };
+    match random.below(8) {
+        0..=2 => {
+            let times = random.between(1, 8);
+            repeating(random, &bytes, times)
+        }
+        // As long as a sheet may be.
+        3 => repeating(random, &bytes, (sheet::LONGEST - bytes.len()) / 3),
+        _ => bytes,
     }
-    untidy(random, &graph)
 }

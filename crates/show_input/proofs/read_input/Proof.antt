@@ -1,4 +1,4 @@
--- The bytes that count are read; the sheet's refusal, or what its tables come to.
+-- The bytes are read; the sheet's refusal, or what its tables come to.
 use mathlib.Core.Path.{sym}
 use native.Mathlib.Omega.{arith}
 use denote.Ref.{now}
@@ -12,11 +12,8 @@ use borrow.Author.Needs.{needs}
 use Rattle.show_input.proofs.read_input.Statement.{statement}
 use Rattle.show_input.proofs.read_input.Tie as tie
 
-counts-requires : tie.Need-counts-requires
-counts-requires c κs = search needs
-
 slice-aggregate-read : tie.Need-slice-aggregate-read
-slice-aggregate-read c = sym (length-take-le _ _ (omega (arith, c .before .counts .ensures, c .before .before .before .before .pre)))
+slice-aggregate-read c = sym (length-take-le _ (now (c .before .before .before .args .input)) (omega (arith, c .before .before .before .pre)))
 
 read-requires : tie.Need-read-requires
 read-requires c κs = search needs
@@ -31,29 +28,33 @@ enum-told : tie.Need-enum-told
 enum-told c = search needs
 
 prepare-requires : tie.Need-prepare-requires
-prepare-requires c κs = (sheet-of (take (c .before .before .before .before .before .before .counts .result) (now (c .before .before .before .before .before .before .before .before .before .args .input))) (c .before .before .before .before .read .result) (c .before .before .before .before .read .ensures) (c .before .enum-told .given .1) .tables, c .before .before .before .before .before .before .before .before .before .pre .2)
+prepare-requires c κs =
+    let a = c .before .before .before .before .before .before .before .before .args in
+    (sheet-of (take (a .got) (now (a .input))) (c .before .before .before .before .read .result) (c .before .before .before .before .read .ensures) (c .before .enum-told .given .1) .tables, c .before .before .before .before .before .before .before .before .pre .2)
 
 same-length : tie.Need-same-length
 same-length c = search needs
 
 returns : tie.Need-returns
 returns c =
-    of-input (c .before .before .before .before .before .before .before .before .before .before .before .before .before .args .got) (c .before .before .before .before .before .before .before .before .before .before .counts .result) (c .before .before .before .before .before .before .before .before .before .before .counts .ensures) (now (c .before .before .before .before .before .before .before .before .before .before .before .before .before .args .input))
-    (answered-refused (take (c .before .before .before .before .before .before .before .before .before .before .counts .result) (now (c .before .before .before .before .before .before .before .before .before .before .before .before .before .args .input))) (c .before .before .before .before .before .before .before .before .read .result) _ (c .before .before .before .before .before .before .before .before .read .ensures) (c .before .before .before .before .before .verdict .given .1)) (refusal (c .before .before .refuse .ensures))
+    let a = c .before .before .before .before .before .before .before .before .before .before .before .before .args in
+    of-input (take (a .got) (now (a .input)))
+    (answered-refused (take (a .got) (now (a .input))) (c .before .before .before .before .before .before .before .before .read .result) _ (c .before .before .before .before .before .before .before .before .read .ensures) (c .before .before .before .before .before .verdict .given .1))
+    (refusal (c .before .before .refuse .ensures))
 
 same-length-2 : tie.Need-same-length-2
 same-length-2 c = search needs
 
 returns-2 : tie.Need-returns-2
 returns-2 c =
-    let x = sheet-of (take (c .before .before .before .before .before .before .before .before .before .counts .result) (now (c .before .before .before .before .before .before .before .before .before .before .before .before .args .input))) (c .before .before .before .before .before .before .before .read .result) (c .before .before .before .before .before .before .before .read .ensures) (c .before .before .before .before .enum-told .given .1) in
-    of-input (c .before .before .before .before .before .before .before .before .before .before .before .before .args .got) (c .before .before .before .before .before .before .before .before .before .counts .result) (c .before .before .before .before .before .before .before .before .before .counts .ensures) (now (c .before .before .before .before .before .before .before .before .before .before .before .before .args .input)) (x .is) (c .before .before .prepare .ensures (x .tables))
+    let a = c .before .before .before .before .before .before .before .before .before .before .before .args in
+    let x = sheet-of (take (a .got) (now (a .input))) (c .before .before .before .before .before .before .before .read .result) (c .before .before .before .before .before .before .before .read .ensures) (c .before .before .before .before .enum-told .given .1) in
+    of-input (take (a .got) (now (a .input))) (x .is) (c .before .before .prepare .ensures (x .tables))
 
 pub read-input-spec : {M : Type 1} → statement M
 read-input-spec =
     tie.close
     (tie.spec
-    counts-requires
     slice-aggregate-read
     read-requires
     enum-known-verdict

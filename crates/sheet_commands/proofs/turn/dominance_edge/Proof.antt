@@ -1,4 +1,4 @@
--- 3, then 7 before 8; the set of roots at l with r put in.
+-- 3, then 8 for an edge that is new; the set of roots at l with r put in, or as it is where it has r.
 use mathlib.Core.Path.{_≡_, sym, _∙_}
 use mathlib.Core.Bool.{true, false}
 use native.Mathlib.Omega.{arith}
@@ -6,7 +6,7 @@ use denote.Ref.{now}
 use borrow.Author.Tests.{le-leb, lt-leb}
 use Rattle.base_tables.specs.Rows.{inRow}
 use Rattle.theory_format.proofs.Spelling.{within-beyond}
-use Rattle.sheet_commands.proofs.Turns.{beyond-first, beyond-second, heads-put}
+use Rattle.sheet_commands.proofs.Turns.{beyond-first, beyond-second, heads-put, again}
 use borrow.Author.Needs.{needs}
 use Rattle.sheet_commands.proofs.turn.dominance_edge.Statement.{statement}
 use Rattle.sheet_commands.proofs.turn.dominance_edge.Tie as tie
@@ -32,7 +32,7 @@ same-length-2 c = search needs
 returns-3 : tie.Need-returns-3
 returns-3 c = let a = c .before .before .before .before .before .before .before .before .before .args in
     let there : inRow (now (a .low)) (now (a .high)) (a .l) (a .r) ≡ true = sym (c .before .before .set-at .ensures (a .r)) ∙ sym (c .before .has .ensures) ∙ c .if3 .taken in
-    (rw (within-beyond (a .n) (a .l) (a .r) (omega arith) (omega arith), there), tt)
+    (rw (within-beyond (a .n) (a .l) (a .r) (omega arith) (omega arith), there), λ u v. again (inRow (now (a .low)) (now (a .high))) (a .l) (a .r) u v there)
 
 same-length-3 : tie.Need-same-length-3
 same-length-3 c = search needs
@@ -51,8 +51,8 @@ with-requires c κs = search needs
 put-at-requires : tie.Need-put-at-requires
 put-at-requires c κs = (omega arith, omega arith)
 
-add-t26 : tie.Need-add-t26
-add-t26 c = search needs
+add-t25 : tie.Need-add-t25
+add-t25 c = search needs
 
 same-length-5 : tie.Need-same-length-5
 same-length-5 c = search needs
@@ -81,7 +81,7 @@ dominance-edge-spec =
     returns-4
     with-requires
     put-at-requires
-    add-t26
+    add-t25
     same-length-5
     same-length-6
     returns-5)

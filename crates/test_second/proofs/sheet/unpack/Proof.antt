@@ -9,7 +9,7 @@ abbrev Inv-loop : tie.InvT-loop
 Inv-loop sheet parent₀ leaves₀ roots₀ number₀ at₀ parent leaves roots number at = (length parent ≡ length parent₀) × (length leaves ≡ length leaves₀) × (length roots ≡ length roots₀)
 
 abbrev μ-loop : tie.MeasureT-loop
-μ-loop sheet parent₀ leaves₀ roots₀ number₀ at₀ parent leaves roots number at = 1200 - at
+μ-loop sheet parent₀ leaves₀ roots₀ number₀ at₀ parent leaves roots number at = 2048 - at
 
 loop-holds : tie.Need-loop-holds Inv-loop μ-loop
 loop-holds c = search needs

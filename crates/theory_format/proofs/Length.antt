@@ -1,0 +1,40 @@
+-- The limit of 2,048 bytes: a longer sheet is refused, whatever its bytes are, and one that is not is read. So 2,049 bytes of an
+-- input tell all of it.
+use Prim.Native.Nat.{ℕ, suc, _≤_, _<_}
+use mathlib.Core.Path.{_≡_, sym, ap, _∙_}
+use mathlib.Core.List.{List}
+use mathlib.Core.Bool.{true, false}
+use native.Mathlib.Omega.{arith}
+use lib.Dec.{ltb}
+use lib.ListN.{length, length-take}
+use lib.Seq.{take-all}
+use borrow.Author.Tests.{lt-ltb, le-ltb, ltb-true, ltb-false}
+use Rattle.base_finite.proofs.Laws.{by-bool}
+use Rattle.graph.specs.Graph.{Graph}
+use Rattle.format.specs.Sheet.{refused, accepted, allCommands, longest, outcome}
+use Rattle.format.specs.Text.{judged}
+use Rattle.format.specs.declared.Refusal.the-variants.{TooLong}
+use Rattle.theory_format.proofs.Whole.{passed}
+
+pub too-long : (bs : List ℕ) → longest < length bs → outcome bs ≡ refused TooLong
+unfolding outcome
+too-long bs h = rw (lt-ltb longest (length bs) h)
+
+pub short-enough : (bs : List ℕ) → length bs ≤ longest → outcome bs ≡ allCommands bs
+unfolding outcome
+short-enough bs h = rw (le-ltb longest (length bs) h)
+
+pub accepted-short : (bs : List ℕ) (g : Graph) → outcome bs ≡ accepted g → (length bs ≤ longest) × (allCommands bs ≡ accepted g)
+unfolding outcome
+accepted-short bs g e =
+    let p = passed (ltb longest (length bs)) TooLong (allCommands bs) g e in
+    (ltb-false longest (length bs) (p .0), p .1)
+
+-- "the program reads 2,049 bytes to tell"
+pub judged-tells : (input : List ℕ) → outcome (judged input) ≡ outcome input
+judged-tells input =
+    by-bool (ltb longest (length input))
+    (λ (e : ltb longest (length input) ≡ true).
+    let long = ltb-true longest (length input) e in
+    too-long (judged input) (omega (arith, long, length-take (suc longest) input)) ∙ sym (too-long input long))
+    (λ (e : ltb longest (length input) ≡ false). ap outcome (take-all (suc longest) input (omega (arith, ltb-false longest (length input) e))))
