@@ -10,8 +10,9 @@ const DOMINANCE: u8 = 3;
 pub struct Commands {
     pub nodes: u8,
     pub tree: Vec<(u8, u8)>,
+    /// Each of them once.
     pub dominance: Vec<(u8, u8)>,
-    /// All of them, in order.
+    /// All commands, in order.
     pub lines: Vec<String>,
 }
 
@@ -32,7 +33,9 @@ pub fn commands(sheet: &[u8]) -> Commands {
                 rest
             }
             [DOMINANCE, leaf, root, ref rest @ ..] => {
-                read.dominance.push((leaf, root));
+                if !read.dominance.contains(&(leaf, root)) {
+                    read.dominance.push((leaf, root));
+                }
                 read.lines.push(format!("dom {leaf} {root}"));
                 rest
             }
@@ -83,6 +86,13 @@ mod tests {
     fn bytes_are_their_text() {
         let lines = commands(&[1, 4, 2, 0, 1, 2, 2, 3, 3, 1, 2, 0]).lines;
         assert_eq!(lines, ["nodes 4", "tree 0 1", "tree 2 3", "dom 1 2"]);
+    }
+
+    #[test]
+    fn a_repeat_is_a_line_and_no_edge() {
+        let read = commands(&[1, 4, 2, 0, 1, 2, 2, 3, 3, 1, 2, 3, 1, 2, 0]);
+        assert_eq!(read.lines, ["nodes 4", "tree 0 1", "tree 2 3", "dom 1 2", "dom 1 2"]);
+        assert_eq!(read.dominance, [(1, 2)]);
     }
 
     #[test]

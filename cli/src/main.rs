@@ -5,7 +5,7 @@ mod words;
 
 use std::io::{Read, Write};
 use std::process::ExitCode;
-use words::Answer;
+use words::{Answer, Failure};
 
 const USAGE: &str = "\
 usage: bixtogan WORD < SHEET
@@ -24,42 +24,60 @@ usage: bixtogan WORD < SHEET
   encode              the sheet of a text (the text on standard input)
 ";
 
-fn answer(words: &[&str], input: &[u8]) -> Answer {
+/// A text has at most so many bytes, comments and all.
+const TEXT: usize = 1 << 20;
+
+/// Standard input, so many bytes of it at most: nobody need end it.
+fn input(most: usize) -> Result<Vec<u8>, Failure> {
+    let mut bytes = Vec::new();
+    let read = std::io::stdin().take(most as u64).read_to_end(&mut bytes);
+    read.map_err(|_| Failure::Input("standard input cannot be read".to_string()))?;
+    Ok(bytes)
+}
+
+/// The sheet, and of one that is too long a byte more than it may have.
+fn sheet() -> Result<Vec<u8>, Failure> {
+    input(bixtogan::LONGEST + 1)
+}
+
+fn text() -> Result<Vec<u8>, Failure> {
+    let bytes = input(TEXT + 1)?;
+    if bytes.len() > TEXT {
+        return Err(Failure::Input(format!("the text has more than {TEXT} bytes")));
+    }
+    Ok(bytes)
+}
+
+fn answer(words: &[&str]) -> Answer {
     match words {
-        ["list"] => words::list(input),
-        ["count"] => words::count(input),
-        ["reading", k] => words::reading(input, words::number(k)?),
-        ["configuration"] => words::configuration(input),
-        ["draw", k] => words::draw(input, words::number(k)?),
-        ["tidy"] => words::tidy(input),
-        ["fragments"] => words::fragments(input),
-        ["check-placing", file] => words::check_placing(input, &words::file(file)?),
-        ["check-cycle", file] => words::check_cycle(input, &words::file(file)?),
-        ["dot"] => words::dot(input),
-        ["dot", k] => words::dot_reading(input, words::number(k)?),
-        ["decode"] => words::decode(input),
-        ["encode"] => words::encode(input),
-        _ => Err(words::Failure::Usage),
+        ["list"] => words::list(&sheet()?),
+        ["count"] => words::count(&sheet()?),
+        ["reading", k] => words::reading(&sheet()?, words::number(k)?),
+        ["configuration"] => words::configuration(&sheet()?),
+        ["draw", k] => words::draw(&sheet()?, words::number(k)?),
+        ["tidy"] => words::tidy(&sheet()?),
+        ["fragments"] => words::fragments(&sheet()?),
+        ["check-placing", file] => words::check_placing(&sheet()?, &words::file(file)?),
+        ["check-cycle", file] => words::check_cycle(&sheet()?, &words::file(file)?),
+        ["dot"] => words::dot(&sheet()?),
+        ["dot", k] => words::dot_reading(&sheet()?, words::number(k)?),
+        ["decode"] => words::decode(&sheet()?),
+        ["encode"] => words::encode(&text()?),
+        _ => Err(Failure::Usage),
     }
 }
 
 fn main() -> ExitCode {
     let arguments: Vec<String> = std::env::args().skip(1).collect();
     let arguments: Vec<&str> = arguments.iter().map(String::as_str).collect();
-    let mut input = Vec::new();
-    let asks = !matches!(arguments[..], [] | ["help"] | ["--help"]);
-    if asks && std::io::stdin().read_to_end(&mut input).is_err() {
-        eprintln!("bixtogan: standard input cannot be read");
-        return ExitCode::from(2);
-    }
-    let (text, status) = match answer(&arguments, &input) {
+    let (text, status) = match answer(&arguments) {
         Ok(text) => (text, ExitCode::SUCCESS),
-        Err(words::Failure::Refused(text)) => (text, ExitCode::FAILURE),
-        Err(words::Failure::Usage) => {
+        Err(Failure::Refused(text)) => (text, ExitCode::FAILURE),
+        Err(Failure::Usage) => {
             eprint!("{USAGE}");
             return ExitCode::from(2);
         }
-        Err(words::Failure::Input(why)) => {
+        Err(Failure::Input(why)) => {
             eprintln!("bixtogan: {why}");
             return ExitCode::from(2);
         }

@@ -1,21 +1,30 @@
 //! The program as a person calls it: what it prints, and how it ends.
 use std::io::Write;
 use std::path::PathBuf;
-use std::process::{Command, Stdio};
+use std::process::{Child, Command, Stdio};
 
-/// What the program writes and its exit status, for these words and this standard input.
-fn bytes(words: &[&str], input: &[u8]) -> (Vec<u8>, i32) {
-    let mut child = Command::new(env!("CARGO_BIN_EXE_bixtogan"))
+fn spawn(words: &[&str]) -> Child {
+    Command::new(env!("CARGO_BIN_EXE_bixtogan"))
         .args(words)
         .stdin(Stdio::piped())
         .stdout(Stdio::piped())
         .stderr(Stdio::null())
         .spawn()
-        .unwrap();
-    // A program that only shows its usage does not read.
-    let _ = child.stdin.take().unwrap().write_all(input);
+        .unwrap()
+}
+
+/// What the program writes and its exit status.
+fn ended(child: Child) -> (Vec<u8>, i32) {
     let output = child.wait_with_output().unwrap();
     (output.stdout, output.status.code().unwrap())
+}
+
+/// The same for these words and this standard input.
+fn bytes(words: &[&str], input: &[u8]) -> (Vec<u8>, i32) {
+    let mut child = spawn(words);
+    // A program that only shows its usage does not read.
+    let _ = child.stdin.take().unwrap().write_all(input);
+    ended(child)
 }
 
 fn run(words: &[&str], input: &[u8]) -> (String, i32) {
@@ -148,6 +157,50 @@ fn text_and_bytes() {
 fn tidy_is_by_child_and_by_leaf() {
     let untidy = [1, 4, 3, 3, 0, 2, 2, 3, 2, 0, 1, 0];
     assert_eq!(run(&["tidy"], &untidy), done("nodes 4\ntree 0 1\ntree 2 3\ndom 3 0\n"));
+}
+
+/// Two fragments of two nodes, and the dominance edge from 1 to 2 so many times.
+fn repeating(times: usize) -> Vec<u8> {
+    [&[1, 4, 2, 0, 1, 2, 2, 3], &[3, 1, 2].repeat(times)[..], &[0]].concat()
+}
+
+// 02, One.
+#[test]
+fn the_same_edge_twice() {
+    let sheet = repeating(2);
+    assert_eq!(run(&["list"], &sheet), done("readings 1\n1 2:1\n"));
+    assert_eq!(run(&["tidy"], &sheet), done("nodes 4\ntree 0 1\ntree 2 3\ndom 1 2\n"));
+    assert_eq!(run(&["decode"], &sheet), done("nodes 4\ntree 0 1\ntree 2 3\ndom 1 2\ndom 1 2\n"));
+    let (picture, _) = run(&["dot"], &sheet);
+    assert_eq!(picture.matches("dashed").count(), 1);
+    assert_eq!(run(&["list"], &repeating(679)), done("readings 1\n1 2:1\n"));
+    assert_eq!(run(&["list"], &repeating(680)), refused("refused 12\n"));
+}
+
+#[test]
+fn sheets_that_are_too_long() {
+    assert_eq!(run(&["count"], &[0; 2048]), refused("refused 2\n"));
+    assert_eq!(run(&["count"], &[0; 2049]), refused("refused 12\n"));
+    assert_eq!(run(&["list"], &[0; 5000]), refused("refused 12\n"));
+    let (text, status) = run(&["decode"], &repeating(680));
+    assert_eq!((text.lines().last(), status), (Some("# refused 12"), 1));
+}
+
+/// The program answers, and is gone before it was given all of this.
+#[test]
+fn inputs_without_end() {
+    for (words, answer) in [
+        (&["list"][..], (b"refused 12\n".to_vec(), 1)),
+        (&["decode"], (b"# refused 12\n".to_vec(), 1)),
+        (&["encode"], (Vec::new(), 2)),
+        (&["unknown"], (Vec::new(), 2)),
+    ] {
+        let mut child = spawn(words);
+        let mut input = child.stdin.take().unwrap();
+        let taken = (0..1000).take_while(|_| input.write_all(&[b' '; 65536]).is_ok()).count();
+        assert!(taken < 1000, "{words:?}: {taken} times 65,536 bytes were taken");
+        assert_eq!(ended(child), answer, "{words:?}");
+    }
 }
 
 #[test]
