@@ -1,9 +1,11 @@
 //! The command line: a sheet on standard input, plain text out. Refusals are one line, "refused" and the number.
 mod dot;
 mod form;
+mod input;
 mod words;
 
-use std::io::{Read, Write};
+use input::{file, number, sheet, text};
+use std::io::Write;
 use std::process::ExitCode;
 use words::{Answer, Failure};
 
@@ -24,43 +26,19 @@ usage: bixtogan WORD < SHEET
   encode              the sheet of a text (the text on standard input)
 ";
 
-/// A text has at most so many bytes, comments and all.
-const TEXT: usize = 1 << 20;
-
-/// Standard input, so many bytes of it at most: nobody need end it.
-fn input(most: usize) -> Result<Vec<u8>, Failure> {
-    let mut bytes = Vec::new();
-    let read = std::io::stdin().take(most as u64).read_to_end(&mut bytes);
-    read.map_err(|_| Failure::Input("standard input cannot be read".to_string()))?;
-    Ok(bytes)
-}
-
-/// The sheet, and of one that is too long a byte more than it may have.
-fn sheet() -> Result<Vec<u8>, Failure> {
-    input(bixtogan::LONGEST + 1)
-}
-
-fn text() -> Result<Vec<u8>, Failure> {
-    let bytes = input(TEXT + 1)?;
-    if bytes.len() > TEXT {
-        return Err(Failure::Input(format!("the text has more than {TEXT} bytes")));
-    }
-    Ok(bytes)
-}
-
 fn answer(words: &[&str]) -> Answer {
     match words {
         ["list"] => words::list(&sheet()?),
         ["count"] => words::count(&sheet()?),
-        ["reading", k] => words::reading(&sheet()?, words::number(k)?),
+        ["reading", k] => words::reading(number(k)?, &sheet()?),
         ["configuration"] => words::configuration(&sheet()?),
-        ["draw", k] => words::draw(&sheet()?, words::number(k)?),
+        ["draw", k] => words::draw(number(k)?, &sheet()?),
         ["tidy"] => words::tidy(&sheet()?),
         ["fragments"] => words::fragments(&sheet()?),
-        ["check-placing", file] => words::check_placing(&sheet()?, &words::file(file)?),
-        ["check-cycle", file] => words::check_cycle(&sheet()?, &words::file(file)?),
+        ["check-placing", name] => words::check_placing(&file(name)?, &sheet()?),
+        ["check-cycle", name] => words::check_cycle(&file(name)?, &sheet()?),
         ["dot"] => words::dot(&sheet()?),
-        ["dot", k] => words::dot_reading(&sheet()?, words::number(k)?),
+        ["dot", k] => words::dot_reading(number(k)?, &sheet()?),
         ["decode"] => words::decode(&sheet()?),
         ["encode"] => words::encode(&text()?),
         _ => Err(Failure::Usage),

@@ -18,14 +18,6 @@ impl From<Refusal> for Failure {
     }
 }
 
-pub fn number(word: &str) -> Result<u64, Failure> {
-    word.parse().map_err(|_| Failure::Usage)
-}
-
-pub fn file(name: &str) -> Result<String, Failure> {
-    std::fs::read_to_string(name).map_err(|why| Failure::Input(format!("{name}: {why}")))
-}
-
 /// The number of nodes, as far as the sheet has one: a sheet without is refused by every call.
 fn nodes(sheet: &[u8]) -> usize {
     usize::from(form::commands(sheet).nodes).min(NODES)
@@ -111,7 +103,7 @@ pub fn list(sheet: &[u8]) -> Answer {
 }
 
 /// The placing of reading k; number 0 is refused as the drawing refuses it.
-fn placing_of(sheet: &[u8], k: u64) -> Result<Vec<u8>, Failure> {
+fn placing_of(k: u64, sheet: &[u8]) -> Result<Vec<u8>, Failure> {
     let mut out = vec![0; 2 * NODES];
     let mut place = Place::after(k.wrapping_sub(1));
     place.next(sheet, &mut out).map_err(|why| unplaced(why, &out))?;
@@ -119,8 +111,8 @@ fn placing_of(sheet: &[u8], k: u64) -> Result<Vec<u8>, Failure> {
     Ok(out)
 }
 
-pub fn reading(sheet: &[u8], k: u64) -> Answer {
-    Ok(line(&k.to_string(), &placing_of(sheet, k)?))
+pub fn reading(k: u64, sheet: &[u8]) -> Answer {
+    Ok(line(&k.to_string(), &placing_of(k, sheet)?))
 }
 
 pub fn configuration(sheet: &[u8]) -> Answer {
@@ -129,7 +121,7 @@ pub fn configuration(sheet: &[u8]) -> Answer {
     Ok(line("configuration", &out[..nodes(sheet)]))
 }
 
-pub fn draw(sheet: &[u8], k: u64) -> Answer {
+pub fn draw(k: u64, sheet: &[u8]) -> Answer {
     let mut out = vec![0; DRAWING];
     let length = bixtogan::drawing(sheet, k, &mut out)?;
     out.truncate(length);
@@ -161,7 +153,7 @@ fn yes(answer: bool) -> &'static str {
     }
 }
 
-pub fn check_placing(sheet: &[u8], text: &str) -> Answer {
+pub fn check_placing(text: &str, sheet: &[u8]) -> Answer {
     let mut placing = vec![TOP; nodes(sheet)];
     for pair in text.split_whitespace() {
         let wrong = || Failure::Input(format!("{pair}: wanted ROOT:LEAF, with numbers of nodes"));
@@ -179,7 +171,7 @@ pub fn check_placing(sheet: &[u8], text: &str) -> Answer {
     Ok(text.into_bytes())
 }
 
-pub fn check_cycle(sheet: &[u8], text: &str) -> Answer {
+pub fn check_cycle(text: &str, sheet: &[u8]) -> Answer {
     let numbers: Result<Vec<u8>, _> = text.split_whitespace().map(str::parse).collect();
     let cycle = numbers
         .map_err(|_| Failure::Input("a cycle is numbers up to 255, node and kind of edge in turn".to_string()))?;
@@ -197,8 +189,8 @@ pub fn dot(sheet: &[u8]) -> Answer {
     Ok(dot::sheet(&form::commands(sheet), cycle).into_bytes())
 }
 
-pub fn dot_reading(sheet: &[u8], k: u64) -> Answer {
-    let placing = placing_of(sheet, k)?;
+pub fn dot_reading(k: u64, sheet: &[u8]) -> Answer {
+    let placing = placing_of(k, sheet)?;
     Ok(dot::placing(&form::commands(sheet), &placing).into_bytes())
 }
 
@@ -215,7 +207,6 @@ pub fn decode(sheet: &[u8]) -> Answer {
     }
 }
 
-pub fn encode(text: &[u8]) -> Answer {
-    let text = std::str::from_utf8(text).map_err(|_| Failure::Input("the text is not UTF-8".to_string()))?;
+pub fn encode(text: &str) -> Answer {
     form::encode(text).map_err(Failure::Input)
 }

@@ -193,6 +193,8 @@ fn inputs_without_end() {
         (&["list"][..], (b"refused 12\n".to_vec(), 1)),
         (&["decode"], (b"# refused 12\n".to_vec(), 1)),
         (&["encode"], (Vec::new(), 2)),
+        (&["check-cycle", "/dev/zero"], (Vec::new(), 2)),
+        (&["draw", "one"], (Vec::new(), 2)),
         (&["unknown"], (Vec::new(), 2)),
     ] {
         let mut child = spawn(words);
