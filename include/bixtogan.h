@@ -64,13 +64,13 @@ extern "C" {
 /* What a function returns: an answer, .. */
 #define BIXTOGAN_DONE 0
 /* .. or that the sheet is not well-formed, .. */
-#define BIXTOGAN_MISSING 1  /* a needed byte is missing */
-#define BIXTOGAN_COMMAND 2  /* a command is unknown or out of place, or a byte follows the end */
-#define BIXTOGAN_RANGE 3    /* n is outside 2 to 128, or an operand is n or more */
-#define BIXTOGAN_TREE 4     /* an edge from a node to itself, a second parent, or a cycle */
-#define BIXTOGAN_BARE 5     /* a node has no tree edge */
-#define BIXTOGAN_ENDS 6     /* a dominance edge does not go from a leaf to a root */
-#define BIXTOGAN_TOO_MANY 8 /* a dominance edge would be the 256th different one */
+#define BIXTOGAN_MISSING 1   /* a needed byte is missing */
+#define BIXTOGAN_COMMAND 2   /* a command is unknown or out of place, or a byte follows the end */
+#define BIXTOGAN_RANGE 3     /* n is outside 2 to 128, or an operand is n or more */
+#define BIXTOGAN_TREE 4      /* an edge from a node to itself, a second parent, or a cycle */
+#define BIXTOGAN_BARE 5      /* a node has no tree edge */
+#define BIXTOGAN_ENDS 6      /* a dominance edge does not go from a leaf to a root */
+#define BIXTOGAN_TOO_MANY 8  /* a dominance edge would be the 256th different one */
 #define BIXTOGAN_TOO_LONG 12 /* the sheet has more than 2,048 bytes */
 /* .. or that it has no solved form, and so no reading, .. */
 #define BIXTOGAN_NO_READING 9

@@ -1,9 +1,9 @@
 -- Dropping edges one by one: the rest of a graph's edges is a graph in tables again, and an edge that was needed stays
 -- needed when others go. So when all edges are settled, those kept are a minimal set.
-use Prim.Native.Nat.{ℕ, _+_, _≤_, _<_}
+use Prim.Native.Nat.{ℕ, suc, _+_, _≤_, _<_}
 use mathlib.Core.Path.{_≡_, refl, sym, subst, subst₂, _∙_}
 use mathlib.Core.List.{List, [], _∷_}
-use mathlib.Core.Bool.{Bool, true, false, not, _&&_, _||_, true≢false}
+use mathlib.Core.Bool.{Bool, true, false, cond, not, _&&_, _||_, true≢false}
 use mathlib.Core.Logic.{⊎-elim, _↔_}
 use native.Mathlib.Omega.{arith}
 use lib.Dec.{eqb, ltb}
@@ -42,18 +42,21 @@ without-is es l r a b =
     (without-keeps es l r a b (λ q. true≢false (sym (rw (eq-eqb a l (q .0), eq-eqb b r (q .1))) ∙ t)))))
 
 -- no more different ones than before
+
+fewer : (b : Bool) (k m : ℕ) → k ≤ m → (k ≤ cond b m (suc m)) × (cond b k (suc k) ≤ cond b m (suc m))
+fewer true k m h = (h, h)
+fewer false k m h = (omega arith, omega arith)
+
 without-fewer : (es : List Edge) (l r : ℕ) → different (without es l r) ≤ different es
 unfolding without different
 without-fewer [] l r = omega arith
 without-fewer (e ∷ es) l r =
-    let ih : different (without es l r) ≤ different es = without-fewer es l r in
+    let f = fewer (among es (e .0) (e .1)) (different (without es l r)) (different es) (without-fewer es l r) in
     by-bool (eqb (e .0) l && eqb (e .1) r)
-    (λ (t : (eqb (e .0) l && eqb (e .1) r) ≡ true).
-    rw t (by-bool (among es (e .0) (e .1)) (λ (s : among es (e .0) (e .1) ≡ true). rw s ih) (λ (s : among es (e .0) (e .1) ≡ false). rw s (omega arith))))
+    (λ (t : (eqb (e .0) l && eqb (e .1) r) ≡ true). rw t (f .0))
     (λ (t : (eqb (e .0) l && eqb (e .1) r) ≡ false).
     let same : among (without es l r) (e .0) (e .1) ≡ among es (e .0) (e .1) = without-is es l r (e .0) (e .1) ∙ rw t in
-    rw (t, same)
-    (by-bool (among es (e .0) (e .1)) (λ (s : among es (e .0) (e .1) ≡ true). rw s ih) (λ (s : among es (e .0) (e .1) ≡ false). rw s (omega arith))))
+    rw (t, same) (f .1))
 
 -- the graph without an edge is in the tables that it is taken out of
 
