@@ -3,7 +3,7 @@
 use Prim.Native.Nat.{ℕ, _+_, _≤_, _<_}
 use mathlib.Core.Path.{_≡_, refl, sym, _∙_}
 use mathlib.Core.List.{List, [], _∷_}
-use mathlib.Core.Bool.{Bool, true, false, not, _||_, _&&_}
+use mathlib.Core.Bool.{true, false, not, _||_, _&&_}
 use mathlib.Core.Logic.{⊎-elim}
 use native.Mathlib.Numerals.{add-one}
 use native.Mathlib.Omega.{arith}
@@ -16,13 +16,12 @@ use borrow.Author.Tests.{le-leb, eqb-true, eqb-false}
 use Rattle.base_nodeset.specs.Set.{Inserted}
 use Rattle.base_nodeset.specs.declared.NodeSet.{NodeSet}
 use Rattle.base_tables.specs.Rows.{inRow, IsRow, RowPut}
-use Rattle.base_finite.proofs.Laws.{by-bool, or-right, or-none, and-both, eqb-sym}
+use Rattle.base_finite.proofs.Laws.{by-bool, or-right, or-none, eqb-sym}
 use Rattle.graph.specs.Graph.{Edge, among, different, entered, single, parent, none}
 use Rattle.format.specs.Sheet.{beyond}
 use Rattle.format.specs.declared.Refusal.the-variants.{Command, Range, Tree as TreeRefusal, TooMany}
-use Rattle.theory_edges.specs.Edges.{Within}
 use Rattle.theory_format.proofs.Spelling.{not-beyond}
-use Rattle.theory_edges.proofs.Edges.{among-cases}
+use Rattle.theory_edges.proofs.Edges.{within-more, adds-nothing}
 use Rattle.sheet_commands.proofs.command.Step.{the-type}
 use Rattle.sheet_commands.specs.declared.command.Step.{Step}
 use Rattle.sheet_commands.specs.declared.command.Step.the-variants.{Nodes, Tree, Dominance, End, Refused as StepRefused}
@@ -72,30 +71,13 @@ heads-put l r heads more low high low′ high′ is with-r put a b =
     (λ (e : eqb l a ≡ true). rw (eqb-sym a l, e, with-r b, is b, eqb-sym b r, eqb-true l a e))
     (λ (e : eqb l a ≡ false). rw (eqb-sym a l, e))
 
--- an edge that has stood before adds nothing
-pub again : (p : ℕ → ℕ → Bool) (l r u v : ℕ) → p l r ≡ true → p u v ≡ (eqb l u && eqb r v || p u v)
-again p l r u v f =
-    by-bool (eqb l u && eqb r v)
-    (λ (e : (eqb l u && eqb r v) ≡ true).
-    let b = and-both (eqb l u) (eqb r v) e in
-    rw (e, ← eqb-true l u (b .0), ← eqb-true r v (b .1)) f)
-    (λ (e : (eqb l u && eqb r v) ≡ false). rw e)
-
-within-more : (n x y : ℕ) (es : List Edge) → beyond n x y ≡ false → Within n es → Within n ((x, y) ∷ es)
-within-more n x y es e w u v a =
-    let b = not-beyond n x y e in
-    ⊎-elim
-    (λ (q : (x ≡ u) × (y ≡ v)). (omega (arith, b .0, q .0), omega (arith, b .1, q .1)))
-    (λ (m : among es u v ≡ true). w u v m)
-    (among-cases (x, y) es u v a)
-
 module _ (n : ℕ) (t d : List Edge) (rest parents low high : List ℕ) (edges : ℕ) (few : n ≤ 128) (holds : Holds n t d parents low high edges) where
   tree-more : (p c : ℕ) → beyond n p c ≡ false → entered t c ≡ false → Holds n ((p, c) ∷ t) d (set parents c p) low high edges
   unfolding parent single
   tree-more p c b u =
       let w = not-beyond n p c b in
       record {
-        tree-within = within-more n p c t b (holds .tree-within);
+        tree-within = within-more n p c t (w .0) (w .1) (holds .tree-within);
         one-parent = rw (u, holds .one-parent);
         dominance-within = holds .dominance-within;
         parents-long = length-set parents c p ∙ holds .parents-long;
@@ -136,10 +118,11 @@ module _ (n : ℕ) (t d : List Edge) (rest parents low high : List ℕ) (edges :
       → HeadsAfter l r (Going n (edges + 1)) low high low′ high′ → Holds n t ((l, r) ∷ d) parents low′ high′ (edges + 1)
   unfolding among different
   dominance-more l r low′ high′ b f el eh a =
+      let w = not-beyond n l r b in
       record {
         tree-within = holds .tree-within;
         one-parent = holds .one-parent;
-        dominance-within = within-more n l r d b (holds .dominance-within);
+        dominance-within = within-more n l r d (w .0) (w .1) (holds .dominance-within);
         parents-long = holds .parents-long;
         low-long = el ∙ holds .low-long;
         high-long = eh ∙ holds .high-long;
@@ -160,7 +143,7 @@ module _ (n : ℕ) (t d : List Edge) (rest parents low high : List ℕ) (edges :
         low-long = el ∙ holds .low-long;
         high-long = eh ∙ holds .high-long;
         parent-is = holds .parent-is;
-        heads-are = λ u v. a u v ∙ rw (holds .heads-are u v) (sym (again (among d) l r u v f));
+        heads-are = λ u v. a u v ∙ rw (holds .heads-are u v) (adds-nothing (among d) l r f u v);
         edges-are = holds .edges-are;
       }
 

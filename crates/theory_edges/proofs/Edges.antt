@@ -4,7 +4,7 @@
 use Prim.Native.Nat.{ℕ, zero, suc, _+_, _*_, _≤_, _<_}
 use mathlib.Core.Path.{_≡_, refl, sym, _∙_}
 use mathlib.Core.List.{List, [], _∷_}
-use mathlib.Core.Bool.{true, false, not, _&&_, true≢false, false≢true}
+use mathlib.Core.Bool.{Bool, true, false, not, _&&_, _||_, true≢false, false≢true}
 use mathlib.Core.Logic.{_⊎_, inl, inr, ⊎-elim}
 use native.Mathlib.Nat.{suc-mul}
 use native.Mathlib.Omega.{arith}
@@ -132,6 +132,13 @@ within-cons n e es w =
     let b = w (e .0) (e .1) (among-first e es (e .0) (e .1) refl refl) in
     (b .0, b .1, λ u v h. w u v (among-rest e es u v h))
 
+pub within-more : (n : ℕ) (x y : ℕ) (es : List Edge) → x < n → y < n → Within n es → Within n ((x, y) ∷ es)
+within-more n x y es a b w u v h =
+    ⊎-elim
+    (λ (q : (x ≡ u) × (y ≡ v)). (omega arith, omega arith))
+    (λ (t : among es u v ≡ true). w u v t)
+    (among-cases (x, y) es u v h)
+
 pub sum-ext : (n : ℕ) (f g : ℕ → ℕ) → ((k : ℕ) → k < n → f k ≡ g k) → sum n f ≡ sum n g
 unfolding sum
 sum-ext zero f g h = refl
@@ -199,12 +206,18 @@ pub total-ext : (n : ℕ) (es fs : List Edge) → ((u v : ℕ) → among es u v 
 unfolding total
 total-ext n es fs same = sum-ext n (λ u. count n (among es u)) (λ u. count n (among fs u)) (λ u l. count-ext n (among es u) (among fs u) (λ v k. same u v))
 
-pub total-again : (n : ℕ) (e : Edge) (es : List Edge) → among es (e .0) (e .1) ≡ true → total n (e ∷ es) ≡ total n es
-total-again n e es stood =
-    total-ext n (e ∷ es) es
-    (λ u v. test-ext (among (e ∷ es) u v) (among es u v)
-    (λ h. ⊎-elim (λ (b : (e .0 ≡ u) × (e .1 ≡ v)). rw (← b .0, ← b .1) stood) (λ (t : among es u v ≡ true). t) (among-cases e es u v h))
-    (among-rest e es u v))
+-- a pair that is there already adds nothing
+pub adds-nothing : (p : ℕ → ℕ → Bool) (l r : ℕ) → p l r ≡ true → (u v : ℕ) → (eqb l u && eqb r v || p u v) ≡ p u v
+adds-nothing p l r there u v =
+    by-bool (eqb l u && eqb r v)
+    (λ (e : (eqb l u && eqb r v) ≡ true).
+    let b = and-both (eqb l u) (eqb r v) e in
+    rw (e, ← eqb-true l u (b .0), ← eqb-true r v (b .1)) (sym there))
+    (λ (e : (eqb l u && eqb r v) ≡ false). rw e)
+
+pub among-again : (e : Edge) (es : List Edge) → among es (e .0) (e .1) ≡ true → (u v : ℕ) → among (e ∷ es) u v ≡ among es u v
+unfolding among
+among-again e es = adds-nothing (among es) (e .0) (e .1)
 
 pub different-total : (n : ℕ) (es : List Edge) → Within n es → different es ≡ total n es
 unfolding different
@@ -213,7 +226,7 @@ different-total n (e ∷ es) w =
     let b = within-cons n e es w in
     let ih : different es ≡ total n es = different-total n es (b .2) in
     by-bool (among es (e .0) (e .1))
-    (λ (a : among es (e .0) (e .1) ≡ true). rw a (ih ∙ sym (total-again n e es a)))
+    (λ (a : among es (e .0) (e .1) ≡ true). rw a (ih ∙ sym (total-ext n (e ∷ es) es (among-again e es a))))
     (λ (a : among es (e .0) (e .1) ≡ false). rw a (omega (arith, ih, total-cons n e es (b .0) (b .1) a)))
 
 -- how many there are depends only on which they are

@@ -7,30 +7,22 @@ use Prim.Native.Nat.{ℕ, _≤_, _<_}
 use mathlib.Core.Path.{_≡_, refl, sym, subst, ap, _∙_}
 use mathlib.Core.List.{List, [], _∷_}
 use mathlib.Core.Bool.{true, false, cond, _&&_, _||_}
-use mathlib.Core.Logic.{⊎-elim, _↔_}
+use mathlib.Core.Logic.{_↔_}
 use native.Mathlib.Omega.{arith}
 use lib.Dec.{eqb, leb}
 use lib.ListN.{length}
 use borrow.Author.Tests.{eqb-true, leb-true, leb-false, le-leb, lt-leb, ne-eqb}
-use Rattle.base_finite.proofs.Laws.{by-bool, or-none, and-both, test-ext}
+use Rattle.base_finite.proofs.Laws.{by-bool, or-none, and-both}
 use Rattle.graph.specs.Graph.{Edge, Graph, among, different, entered, single, TreeEdge, one, WellFormed, Agree}
 use Rattle.format.specs.Sheet.{Outcome, refused, accepted, whole, takesTwo, beyond, commands, allCommands, longest, outcome, EdgeCommand, tree-edge, dominance-edge, spelt, written, sheet, spells, WellFormedSheet}
 use Rattle.format.specs.declared.Refusal.the-variants.{Missing, Command, Range, Tree, TooMany}
-use Rattle.theory_edges.specs.Edges.{Within}
 use Rattle.theory_edges.proofs.Ends.{dominance-within}
-use Rattle.theory_edges.proofs.Edges.{among-cases, among-first, among-rest, among-none, single-cons}
+use Rattle.theory_edges.proofs.Edges.{among-first, among-rest, among-none, among-again, within-more, single-cons}
 use Rattle.theory_edges.proofs.Agreement.{agree-sym, well-formed-agree}
 use Rattle.theory_format.proofs.Whole.{Taken, not-refused, passed, whole-same, well-formed-of-whole, whole-of-well-formed}
 use Rattle.theory_format.proofs.Length.{short-enough, accepted-short}
 
 -- what the commands take
-
-within-more : (n : ℕ) (x y : ℕ) (es : List Edge) → Within n es → x < n → y < n → Within n ((x, y) ∷ es)
-within-more n x y es w a b u v h =
-    ⊎-elim
-    (λ (q : (x ≡ u) × (y ≡ v)). (omega arith, omega arith))
-    (λ (t : among es u v ≡ true). w u v t)
-    (among-cases (x, y) es u v h)
 
 taken-none : (n : ℕ) → 2 ≤ n → n ≤ 128 → Taken n [] []
 unfolding single different
@@ -50,7 +42,7 @@ taken-tree n t d x y k a b fresh =
     record {
       some-nodes = k .some-nodes;
       few-nodes = k .few-nodes;
-      tree-within = within-more n x y t (k .tree-within) a b;
+      tree-within = within-more n x y t a b (k .tree-within);
       one-parent = rw fresh (k .one-parent);
       dominance-within = k .dominance-within;
       few-edges = k .few-edges;
@@ -64,7 +56,7 @@ taken-dominance n t d x y k a b fresh room =
       few-nodes = k .few-nodes;
       tree-within = k .tree-within;
       one-parent = k .one-parent;
-      dominance-within = within-more n x y d (k .dominance-within) a b;
+      dominance-within = within-more n x y d a b (k .dominance-within);
       few-edges = rw fresh (omega arith);
     }
 
@@ -173,9 +165,7 @@ once-tree n t d d′ (dominance-edge l r ∷ cs) = once-tree n t (added d l r) (
 added-among : (d : List Edge) (l r u v : ℕ) → among (added d l r) u v ≡ among ((l, r) ∷ d) u v
 added-among d l r u v =
     by-bool (among d l r)
-    (λ (f : among d l r ≡ true).
-    rw f (test-ext (among d u v) (among ((l, r) ∷ d) u v) (among-rest (l, r) d u v)
-    (λ h. ⊎-elim (λ (b : (l ≡ u) × (r ≡ v)). rw (← b .0, ← b .1) f) (λ (a : among d u v ≡ true). a) (among-cases (l, r) d u v h))))
+    (λ (f : among d l r ≡ true). rw f (sym (among-again (l, r) d f u v)))
     (λ (f : among d l r ≡ false). rw f)
 
 once-dominance : (n : ℕ) (t d d′ : List Edge) (cs : List EdgeCommand) → ((u v : ℕ) → among d u v ≡ among d′ u v)

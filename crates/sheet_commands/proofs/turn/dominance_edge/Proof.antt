@@ -5,8 +5,9 @@ use native.Mathlib.Omega.{arith}
 use denote.Ref.{now}
 use borrow.Author.Tests.{le-leb, lt-leb}
 use Rattle.base_tables.specs.Rows.{inRow}
+use Rattle.theory_edges.proofs.Edges.{adds-nothing}
 use Rattle.theory_format.proofs.Spelling.{within-beyond}
-use Rattle.sheet_commands.proofs.Turns.{beyond-first, beyond-second, heads-put, again}
+use Rattle.sheet_commands.proofs.Turns.{beyond-first, beyond-second, heads-put}
 use borrow.Author.Needs.{needs}
 use Rattle.sheet_commands.proofs.turn.dominance_edge.Statement.{statement}
 use Rattle.sheet_commands.proofs.turn.dominance_edge.Tie as tie
@@ -32,7 +33,7 @@ same-length-2 c = search needs
 returns-3 : tie.Need-returns-3
 returns-3 c = let a = c .before .before .before .before .before .before .before .before .before .args in
     let there : inRow (now (a .low)) (now (a .high)) (a .l) (a .r) ≡ true = sym (c .before .before .set-at .ensures (a .r)) ∙ sym (c .before .has .ensures) ∙ c .if3 .taken in
-    (rw (within-beyond (a .n) (a .l) (a .r) (omega arith) (omega arith), there), λ u v. again (inRow (now (a .low)) (now (a .high))) (a .l) (a .r) u v there)
+    (rw (within-beyond (a .n) (a .l) (a .r) (omega arith) (omega arith), there), λ u v. sym (adds-nothing (inRow (now (a .low)) (now (a .high))) (a .l) (a .r) there u v))
 
 same-length-3 : tie.Need-same-length-3
 same-length-3 c = search needs
