@@ -20,6 +20,7 @@ use Rattle.base_finite.proofs.Laws.{by-bool, or-right, or-none, eqb-sym}
 use Rattle.graph.specs.Graph.{Edge, among, different, entered, single, parent, none}
 use Rattle.format.specs.Sheet.{beyond}
 use Rattle.format.specs.declared.Refusal.the-variants.{Command, Range, Tree as TreeRefusal, TooMany}
+use Rattle.theory_edges.specs.Edges.{Within}
 use Rattle.theory_format.proofs.Spelling.{not-beyond}
 use Rattle.theory_edges.proofs.Edges.{within-more, adds-nothing}
 use Rattle.sheet_commands.proofs.command.Step.{the-type}
@@ -114,38 +115,31 @@ module _ (n : ℕ) (t d : List Edge) (rest parents low high : List ℕ) (edges :
       let put : after ≡ set parents c p = rw q at a in
       rw (q, put, b, f) ((p, c) ∷ t, d, few, refl, tree-more p c b (or-none (eqb p c) (entered t c) f .1))))
 
-  dominance-more : (l r : ℕ) (low′ high′ : List ℕ) → beyond n l r ≡ false → among d l r ≡ false → length low′ ≡ length low → length high′ ≡ length high
-      → HeadsAfter l r (Going n (edges + 1)) low high low′ high′ → Holds n t ((l, r) ∷ d) parents low′ high′ (edges + 1)
-  unfolding among different
-  dominance-more l r low′ high′ b f el eh a =
-      let w = not-beyond n l r b in
-      record {
-        tree-within = holds .tree-within;
-        one-parent = holds .one-parent;
-        dominance-within = within-more n l r d (w .0) (w .1) (holds .dominance-within);
-        parents-long = holds .parents-long;
-        low-long = el ∙ holds .low-long;
-        high-long = eh ∙ holds .high-long;
-        parent-is = holds .parent-is;
-        heads-are = λ u v. a u v ∙ rw (holds .heads-are u v);
-        edges-are = rw (f, holds .edges-are) (add-one (different d));
-      }
+  module _ (l r : ℕ) (low′ high′ : List ℕ) (el : length low′ ≡ length low) (eh : length high′ ≡ length high) where
+    -- other sets of roots
+    heads-held : (d′ : List Edge) (k : ℕ) → Within n d′ → ((u v : ℕ) → inRow low′ high′ u v ≡ among d′ u v) → k ≡ different d′ → Holds n t d′ parents low′ high′ k
+    heads-held d′ k within are count =
+        record {
+          tree-within = holds .tree-within;
+          one-parent = holds .one-parent;
+          dominance-within = within;
+          parents-long = holds .parents-long;
+          low-long = el ∙ holds .low-long;
+          high-long = eh ∙ holds .high-long;
+          parent-is = holds .parent-is;
+          heads-are = are;
+          edges-are = count;
+        }
 
-  -- an edge that has stood before
-  dominance-again : (l r : ℕ) (low′ high′ : List ℕ) → among d l r ≡ true → length low′ ≡ length low → length high′ ≡ length high
-      → HeadsAfter l r (Going n edges) low high low′ high′ → Holds n t d parents low′ high′ edges
-  dominance-again l r low′ high′ f el eh a =
-      record {
-        tree-within = holds .tree-within;
-        one-parent = holds .one-parent;
-        dominance-within = holds .dominance-within;
-        parents-long = holds .parents-long;
-        low-long = el ∙ holds .low-long;
-        high-long = eh ∙ holds .high-long;
-        parent-is = holds .parent-is;
-        heads-are = λ u v. a u v ∙ rw (holds .heads-are u v) (adds-nothing (among d) l r f u v);
-        edges-are = holds .edges-are;
-      }
+    dominance-more : beyond n l r ≡ false → among d l r ≡ false → HeadsAfter l r (Going n (edges + 1)) low high low′ high′ → Holds n t ((l, r) ∷ d) parents low′ high′ (edges + 1)
+    unfolding among different
+    dominance-more b f a =
+        let w = not-beyond n l r b in
+        heads-held ((l, r) ∷ d) (edges + 1) (within-more n l r d (w .0) (w .1) (holds .dominance-within)) (λ u v. a u v ∙ rw (holds .heads-are u v)) (rw (f, holds .edges-are) (add-one (different d)))
+
+    -- an edge that has stood before
+    dominance-again : among d l r ≡ true → HeadsAfter l r (Going n edges) low high low′ high′ → Holds n t d parents low′ high′ edges
+    dominance-again f a = heads-held d edges (holds .dominance-within) (λ u v. a u v ∙ rw (holds .heads-are u v) (adds-nothing (among d) l r f u v)) (holds .edges-are)
 
   pub dominance-turn : (l r : ℕ) (x : Run) (low′ high′ : List ℕ) → length low′ ≡ length low → length high′ ≡ length high
       → x ≡ dominanceAnswer n l r edges low high → HeadsAfter l r x low high low′ high′ → Reached (outcomeAfter n t d rest (Dominance l r)) rest x parents low′ high′
@@ -160,7 +154,7 @@ module _ (n : ℕ) (t d : List Edge) (rest parents low high : List ℕ) (edges :
       (λ (f : among d l r ≡ true).
       let q : x ≡ Going n edges = e ∙ rw (b, same, f) in
       let put : HeadsAfter l r (Going n edges) low high low′ high′ = rw q at a in
-      rw (q, b, f) (t, d, few, refl, dominance-again l r low′ high′ f el eh put))
+      rw (q, b, f) (t, d, few, refl, dominance-again l r low′ high′ el eh f put))
       (λ (f : among d l r ≡ false).
       by-bool (leb 255 edges)
       (λ (m : leb 255 edges ≡ true). let q : x ≡ Refused TooMany = e ∙ rw (b, same, f, m) in rw (q, b, f, ← long, m))
@@ -168,7 +162,7 @@ module _ (n : ℕ) (t d : List Edge) (rest parents low high : List ℕ) (edges :
       let q : x ≡ Going n (edges + 1) = e ∙ rw (b, same, f, m) in
       let put : HeadsAfter l r (Going n (edges + 1)) low high low′ high′ = rw q at a in
       let least : leb 255 (different d) ≡ false = rw (← long) m in
-      rw (q, b, f, least) (t, (l, r) ∷ d, few, refl, dominance-more l r low′ high′ b f el eh put))))
+      rw (q, b, f, least) (t, (l, r) ∷ d, few, refl, dominance-more l r low′ high′ el eh b f put))))
 
   pub end-turn : Reached (outcomeAfter n t d rest End) rest (Ended n edges) parents low high
   unfolding Reached outcomeAfter

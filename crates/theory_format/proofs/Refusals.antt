@@ -14,6 +14,7 @@ use Rattle.format.specs.Refusal.{number}
 use Rattle.format.specs.declared.Refusal.{Refusal}
 use Rattle.format.specs.declared.Refusal.the-variants.{Missing, Command, Range, Tree, Bare, Ends, TooMany, NoReading, SmallBuffer, NoSuchReading, TooLong}
 
+-- a number that bytes may be refused by
 abbrev pub OfBytes : ℕ → Type 0
 OfBytes k = ((1 ≤ k) × (k ≤ 6)) ⊎ ((k ≡ 8) ⊎ (k ≡ 12))
 
@@ -72,7 +73,7 @@ outcome-few bs = either (ltb longest (length bs)) _ _ (inr (inr refl)) (all-few 
 pub refused-number : (bs : List ℕ) (why : Refusal) → outcome bs ≡ refused why → OfBytes (number why)
 refused-number bs why e = subst Few e (outcome-few bs)
 
--- no such refusal is given for what a call makes of the bytes
+-- 9 is none of them
 pub not-9 : (k : ℕ) → OfBytes k → k ≡ 9 → ⊥
 not-9 k (inl b) e = omega (arith, b .1, e)
 not-9 k (inr (inl b)) e = omega (arith, b, e)
