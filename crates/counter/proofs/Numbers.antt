@@ -12,7 +12,7 @@ use Rattle.graph.specs.Graph.{Graph}
 use Rattle.graph.specs.Order.{Listing}
 use Rattle.graph.specs.Table.{fragments}
 use Rattle.graph.specs.declared.Fragment.{Fragment}
-use Rattle.format.specs.Sheet.{Outcome, refused, accepted, tidy}
+use Rattle.format.specs.Sheet.{Content, Outcome, refused, accepted, tidy}
 use Rattle.theory_forest.specs.Shape.{Shaped}
 use Rattle.sheet_encode.specs.Tidy.{Tidies}
 use Rattle.sheet_encode.specs.declared.Tidied.{Tidied}
@@ -28,31 +28,31 @@ use Rattle.solve_answer.proofs.Answering.{has-none, reaches}
 use Rattle.counter.specs.Checks.{tidiedNumber, tableNumber}
 use Rattle.counter.specs.Numbers.{NoSuch, CountNumbered, ReadingNumbered, ConfigurationNumbered, DrawingNumbered, TidyNumbered, TableNumbered, RecordsNumbered, PlacingNumbered}
 
-pub count-numbered : {g : Graph} {r : Counted} → Counts g r → CountNumbered (accepted g) (countNumber r)
-count-numbered (Counts.none u) = inl (u, refl)
-count-numbered (Counts.counted ps l h) = inr (λ u. has-none u l h, refl)
+pub count-numbered : (x : Content) {r : Counted} → Counts (x .graph) r → CountNumbered (accepted x) (countNumber r)
+count-numbered x (Counts.none u) = inl (u, refl)
+count-numbered x (Counts.counted ps l h) = inr (λ u. has-none u l h, refl)
 
-module _ {g : Graph} (s : Shaped g) where
+module _ (x : Content) (s : Shaped (x .graph)) where
   -- the reading wanted is there
-  there-is : {ps : List (List ℕ)} {k : ℕ} → Listing g ps → 0 < k → k ≤ reach ps → NoSuch g k → ⊥
+  there-is : {ps : List (List ℕ)} {k : ℕ} → Listing (x .graph) ps → 0 < k → k ≤ reach ps → NoSuch (x .graph) k → ⊥
   there-is l h b (inl e) = omega (arith, h, e)
   there-is l h b (inr o) = omega (arith, b, o .2, reaches s l (o .1))
 
-  pub reading-numbered : {place last : ℕ} {old new : List ℕ} {r : Placed} → ReadingCall g place old r last new → ReadingNumbered place old (accepted g) (placedNumber r)
+  pub reading-numbered : {place last : ℕ} {old new : List ℕ} {r : Placed} → ReadingCall (x .graph) place old r last new → ReadingNumbered place old (accepted x) (placedNumber r)
   reading-numbered (ReadingCall.small f) = inl (f, refl)
   reading-numbered (ReadingCall.none f u w) = inr (λ t. omega (arith, f, t), inl (u, refl))
   reading-numbered (ReadingCall.beyond ps f l h b) = inr (λ t. omega (arith, f, t), inr (λ u. has-none u l h, inl (inr (ps, l, omega (arith, b)), refl)))
   reading-numbered (ReadingCall.read ps f l b) =
       inr (λ t. omega (arith, f, t), inr (λ u. has-none u l (omega (arith, b)), inr (there-is l (omega arith) (omega (arith, b)), refl)))
 
-  pub stretch-numbered : {room place last : ℕ} {old new : List ℕ} {r : Placed} → StretchCall g room place old r last new → ReadingNumbered place old (accepted g) (placedNumber r)
+  pub stretch-numbered : {room place last : ℕ} {old new : List ℕ} {r : Placed} → StretchCall (x .graph) room place old r last new → ReadingNumbered place old (accepted x) (placedNumber r)
   stretch-numbered (StretchCall.small f) = inl (f, refl)
   stretch-numbered (StretchCall.none f u w) = inr (λ t. omega (arith, f, t), inl (u, refl))
   stretch-numbered (StretchCall.beyond ps f l h b) = inr (λ t. omega (arith, f, t), inr (λ u. has-none u l h, inl (inr (ps, l, omega (arith, b)), refl)))
   stretch-numbered (StretchCall.read ps f l a b c d) =
       inr (λ t. omega (arith, f, t), inr (λ u. has-none u l (omega (arith, a, b)), inr (there-is l (omega arith) (omega (arith, a, b)), refl)))
 
-  pub drawing-numbered : {k : ℕ} {old new : List ℕ} {r : Drawn} → DrawingCall g k old r new → DrawingNumbered k old (accepted g) (drawnNumber r)
+  pub drawing-numbered : {k : ℕ} {old new : List ℕ} {r : Drawn} → DrawingCall (x .graph) k old r new → DrawingNumbered k old (accepted x) (drawnNumber r)
   drawing-numbered (DrawingCall.small f) = inl (f, refl)
   drawing-numbered (DrawingCall.none f u) = inr (λ t. omega (arith, f, t), inl (u, refl))
   drawing-numbered (DrawingCall.beyond ps f l h (inl e)) = inr (λ t. omega (arith, f, t), inr (λ u. has-none u l h, inl (inl e, refl)))
@@ -60,32 +60,32 @@ module _ {g : Graph} (s : Shaped g) where
   drawing-numbered (DrawingCall.drawn ps f l h b) =
       inr (λ t. omega (arith, f, t), inr (λ u. has-none u l (omega (arith, h, b)), inr (there-is l h b, refl)))
 
-pub configuration-numbered : {g : Graph} {old new : List ℕ} {r : Placed} → ConfigurationCall g old r new → ConfigurationNumbered old (accepted g) (placedNumber r)
-configuration-numbered (ConfigurationCall.small f) = inl (f, refl)
-configuration-numbered (ConfigurationCall.none f u w) = inr (λ t. omega (arith, f, t), inl (u, refl))
-configuration-numbered (ConfigurationCall.configured q f o d) = inr (λ t. omega (arith, f, t), inr (λ u. u o, refl))
+pub configuration-numbered : (x : Content) {old new : List ℕ} {r : Placed} → ConfigurationCall (x .graph) old r new → ConfigurationNumbered old (accepted x) (placedNumber r)
+configuration-numbered x (ConfigurationCall.small f) = inl (f, refl)
+configuration-numbered x (ConfigurationCall.none f u w) = inr (λ t. omega (arith, f, t), inl (u, refl))
+configuration-numbered x (ConfigurationCall.configured q f o d) = inr (λ t. omega (arith, f, t), inr (λ u. u o, refl))
 
-pub placing-numbered : {g : Graph} {bytes : List ℕ} {r : PlacingChecked} → PlacingCall g bytes r → PlacingNumbered bytes (accepted g) (placingNumber r)
-placing-numbered (PlacingCall.small f) = inl (f, refl)
-placing-numbered (PlacingCall.answered a f x) = inr (λ t. omega (arith, f, t), refl)
+pub placing-numbered : (s : Content) {bytes : List ℕ} {r : PlacingChecked} → PlacingCall (s .graph) bytes r → PlacingNumbered bytes (accepted s) (placingNumber r)
+placing-numbered s (PlacingCall.small f) = inl (f, refl)
+placing-numbered s (PlacingCall.answered a f x) = inr (λ t. omega (arith, f, t), refl)
 
 pub tidy-numbered : (o : Outcome) (r : Tidied) (old new : List ℕ) → Tidies o r old new → TidyNumbered old o (tidiedNumber r)
 tidy-numbered (refused why) r old new x = ap tidiedNumber (x .0)
-tidy-numbered (accepted g) r old new x =
-    by-bool (ltb (length old) (length (tidy g)))
-    (λ e. inl (ltb-true (length old) (length (tidy g)) e, rw (x .0, e) refl))
-    (λ e. inr (λ t. omega (arith, t, ltb-false (length old) (length (tidy g)) e), rw (x .0, e) refl))
+tidy-numbered (accepted s) r old new x =
+    by-bool (ltb (length old) (length (tidy (s .written))))
+    (λ e. inl (ltb-true (length old) (length (tidy (s .written))) e, rw (x .0, e) refl))
+    (λ e. inr (λ t. omega (arith, t, ltb-false (length old) (length (tidy (s .written))) e), rw (x .0, e) refl))
 
 pub table-numbered : (o : Outcome) {r : Table} {old new : List ℕ} → Tabled o r old new → TableNumbered old o (tableNumber r)
 table-numbered (refused why) x = ap tableNumber (x .answer)
-table-numbered (accepted g) {old = old} x =
-    by-bool (ltb (length old) (size g))
-    (λ e. inl (ltb-true (length old) (size g) e, rw (x .answer, e) refl))
-    (λ e. inr (λ t. omega (arith, t, ltb-false (length old) (size g) e), rw (x .answer, e) refl))
+table-numbered (accepted s) {old = old} x =
+    by-bool (ltb (length old) (size (s .graph)))
+    (λ e. inl (ltb-true (length old) (size (s .graph)) e, rw (x .answer, e) refl))
+    (λ e. inr (λ t. omega (arith, t, ltb-false (length old) (size (s .graph)) e), rw (x .answer, e) refl))
 
 pub records-numbered : (o : Outcome) {r : Table} {old new : List Fragment} → Recorded o r old new → RecordsNumbered old o (tableNumber r)
 records-numbered (refused why) x = ap tableNumber (x .answer)
-records-numbered (accepted g) {old = old} x =
-    by-bool (ltb (length old) (length (fragments g)))
-    (λ e. inl (ltb-true (length old) (length (fragments g)) e, rw (x .answer, e) refl))
-    (λ e. inr (λ t. omega (arith, t, ltb-false (length old) (length (fragments g)) e), rw (x .answer, e) refl))
+records-numbered (accepted s) {old = old} x =
+    by-bool (ltb (length old) (length (fragments (s .graph))))
+    (λ e. inl (ltb-true (length old) (length (fragments (s .graph))) e, rw (x .answer, e) refl))
+    (λ e. inr (λ t. omega (arith, t, ltb-false (length old) (length (fragments (s .graph))) e), rw (x .answer, e) refl))

@@ -33,8 +33,8 @@ tableNumber (TableRefused why) = number why
 -- a cycle to be checked"
 abbrev pub CycleOf : Outcome → List ℕ → CycleChecked → Type 0
 CycleOf (refused why) cycle r = r ≡ CycleRefused why
-CycleOf (accepted g) cycle r = r ≡ Answer (hypernormalCycle g cycle)
+CycleOf (accepted s) cycle r = r ≡ Answer (hypernormalCycle (s .graph) cycle)
 
 abbrev pub PlacingOf : Outcome → List ℕ → PlacingChecked → Type 0
 PlacingOf (refused why) placing r = r ≡ Refused why
-PlacingOf (accepted g) placing r = PlacingCall g placing r
+PlacingOf (accepted s) placing r = PlacingCall (s .graph) placing r

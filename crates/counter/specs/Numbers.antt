@@ -11,7 +11,7 @@ use Rattle.graph.specs.Placing.{Unsolvable}
 use Rattle.graph.specs.Order.{Listing}
 use Rattle.graph.specs.Table.{fragments}
 use Rattle.graph.specs.declared.Fragment.{Fragment}
-use Rattle.format.specs.Sheet.{Outcome, refused, accepted, tidy}
+use Rattle.format.specs.Sheet.{Content, Outcome, refused, accepted, tidy}
 use Rattle.format.specs.Refusal.{number}
 use Rattle.sheet_fragments.specs.Table.{size}
 use Rattle.solve_answer.specs.Calls.{reach}
@@ -29,42 +29,42 @@ abbrev pub NoSuch : Graph → ℕ → Type 0
 NoSuch g wanted = (wanted ≡ 0) ⊎ ((ps : List (List ℕ)) × Listing g ps × (reach ps < wanted))
 
 -- the numbers of a sheet with the outcome o, of which these are given where it is well-formed
-abbrev pub Numbered : (Graph → ℕ → Type 0) → Outcome → ℕ → Type 0
+abbrev pub Numbered : (Content → ℕ → Type 0) → Outcome → ℕ → Type 0
 Numbered own (refused why) k = k ≡ number why
-Numbered own (accepted g) k = own g k
+Numbered own (accepted s) k = own s k
 
 -- "9 .. Count, reading, configuration and drawing give it, after 10"; the count "is lent no buffer"
 abbrev pub CountNumbered : Outcome → ℕ → Type 0
-CountNumbered = Numbered (λ g. First 9 (Unsolvable g) NoRefusal)
+CountNumbered = Numbered (λ s. First 9 (Unsolvable (s .graph)) NoRefusal)
 
 -- "2n bytes for a reading or configuration"; "11 .. comes last", and "the number wanted is one more" than the place
 abbrev pub ReadingNumbered : ℕ → List ℕ → Outcome → ℕ → Type 0
 ReadingNumbered place lent =
-    Numbered (λ g. First 10 (length lent < 2 * g .nodes) (First 9 (Unsolvable g) (First 11 (NoSuch g (place + 1)) NoRefusal)))
+    Numbered (λ s. First 10 (length lent < 2 * s .graph .nodes) (First 9 (Unsolvable (s .graph)) (First 11 (NoSuch (s .graph) (place + 1)) NoRefusal)))
 
 abbrev pub ConfigurationNumbered : List ℕ → Outcome → ℕ → Type 0
-ConfigurationNumbered lent = Numbered (λ g. First 10 (length lent < 2 * g .nodes) (First 9 (Unsolvable g) NoRefusal))
+ConfigurationNumbered lent = Numbered (λ s. First 10 (length lent < 2 * s .graph .nodes) (First 9 (Unsolvable (s .graph)) NoRefusal))
 
 -- "1,024 for a drawing"
 abbrev pub DrawingNumbered : ℕ → List ℕ → Outcome → ℕ → Type 0
 DrawingNumbered wanted lent =
-    Numbered (λ g. First 10 (length lent < 1024) (First 9 (Unsolvable g) (First 11 (NoSuch g wanted) NoRefusal)))
+    Numbered (λ s. First 10 (length lent < 1024) (First 9 (Unsolvable (s .graph)) (First 11 (NoSuch (s .graph) wanted) NoRefusal)))
 
 -- "the tidy length for tidying"; "Checking, tidying and the fragment table never give 9."
 abbrev pub TidyNumbered : List ℕ → Outcome → ℕ → Type 0
-TidyNumbered lent = Numbered (λ g. First 10 (length lent < length (tidy g)) NoRefusal)
+TidyNumbered lent = Numbered (λ s. First 10 (length lent < length (tidy (s .written))) NoRefusal)
 
 -- "one record per fragment for the table", three bytes each or as records
 abbrev pub TableNumbered : List ℕ → Outcome → ℕ → Type 0
-TableNumbered lent = Numbered (λ g. First 10 (length lent < size g) NoRefusal)
+TableNumbered lent = Numbered (λ s. First 10 (length lent < size (s .graph)) NoRefusal)
 
 abbrev pub RecordsNumbered : List Fragment → Outcome → ℕ → Type 0
-RecordsNumbered lent = Numbered (λ g. First 10 (length lent < length (fragments g)) NoRefusal)
+RecordsNumbered lent = Numbered (λ s. First 10 (length lent < length (fragments (s .graph))) NoRefusal)
 
 -- "no least length for a cycle to be checked"
 abbrev pub CycleNumbered : Outcome → ℕ → Type 0
-CycleNumbered = Numbered (λ g. NoRefusal)
+CycleNumbered = Numbered (λ s. NoRefusal)
 
 -- "n for a placing to be checked"
 abbrev pub PlacingNumbered : List ℕ → Outcome → ℕ → Type 0
-PlacingNumbered placing = Numbered (λ g. First 10 (length placing < g .nodes) NoRefusal)
+PlacingNumbered placing = Numbered (λ s. First 10 (length placing < s .graph .nodes) NoRefusal)

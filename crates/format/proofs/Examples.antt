@@ -6,7 +6,7 @@ use mathlib.Core.List.{[], _∷_}
 use lib.ListN.{replicate}
 use Rattle.base_finite.specs.Below.{any, spread, select}
 use Rattle.graph.specs.Graph.{Graph, among, different, entered, left, root, leaf, parent, top, own, leafOf, rises, cyclic}
-use Rattle.format.specs.Sheet.{refused, accepted, bare, astray, whole, takesTwo, beyond, commands, allCommands, longest, outcome, tidyTree, tidyDominance, tidy}
+use Rattle.format.specs.Sheet.{refused, accepted, content, bare, astray, whole, takesTwo, beyond, commands, allCommands, longest, outcome, tidyTree, tidyDominance, tidy}
 use Rattle.graph.specs.Placing.{hangs}
 use Rattle.format.specs.Text.{digits, decimal, readingLine}
 use Rattle.format.specs.Drawing.{separated, leafText, fragmentText, drawing}
@@ -69,7 +69,7 @@ tidied = refl
 one-edge : Graph
 one-edge = record { nodes = 4; tree = (2, 3) ∷ (0, 1) ∷ []; dominance = (1, 2) ∷ [] }
 
-read-once : outcome (1 ∷ 4 ∷ 2 ∷ 0 ∷ 1 ∷ 2 ∷ 2 ∷ 3 ∷ 3 ∷ 1 ∷ 2 ∷ 3 ∷ 1 ∷ 2 ∷ 0 ∷ []) ≡ accepted one-edge
+read-once : outcome (1 ∷ 4 ∷ 2 ∷ 0 ∷ 1 ∷ 2 ∷ 2 ∷ 3 ∷ 3 ∷ 1 ∷ 2 ∷ 3 ∷ 1 ∷ 2 ∷ 0 ∷ []) ≡ accepted (content one-edge)
 unfolding one-edge outcome allCommands commands takesTwo beyond whole cyclic rises bare astray among different entered left parent root leaf any
 read-once = refl
 
@@ -77,7 +77,7 @@ read-once = refl
 two-edges : Graph
 two-edges = record { nodes = 4; tree = (2, 3) ∷ (0, 1) ∷ []; dominance = (1, 2) ∷ (3, 0) ∷ [] }
 
-others-kept : outcome (1 ∷ 4 ∷ 2 ∷ 0 ∷ 1 ∷ 2 ∷ 2 ∷ 3 ∷ 3 ∷ 3 ∷ 0 ∷ 3 ∷ 1 ∷ 2 ∷ 3 ∷ 3 ∷ 0 ∷ 0 ∷ []) ≡ accepted two-edges
+others-kept : outcome (1 ∷ 4 ∷ 2 ∷ 0 ∷ 1 ∷ 2 ∷ 2 ∷ 3 ∷ 3 ∷ 3 ∷ 0 ∷ 3 ∷ 1 ∷ 2 ∷ 3 ∷ 3 ∷ 0 ∷ 0 ∷ []) ≡ accepted (content two-edges)
 unfolding two-edges outcome allCommands commands takesTwo beyond whole cyclic rises bare astray among different entered left parent root leaf any
 others-kept = refl
 

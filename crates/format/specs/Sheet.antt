@@ -11,10 +11,19 @@ use Rattle.graph.specs.Graph.{Edge, Graph, among, different, entered, left, roo
 use Rattle.format.specs.declared.Refusal.{Refusal}
 use Rattle.format.specs.declared.Refusal.the-variants.{Missing, Command, Range, Tree, Bare, Ends, TooMany, TooLong}
 
+-- What a sheet says: the nodes and edges that it writes, and the graph that they mean. Tidying goes by the one, and readings by
+-- the other.
+pub record Content : Type 0 where
+  pub written : Graph
+  pub graph : Graph
+
+abbrev pub content : Graph → Content
+content g = record { written = g; graph = g }
+
 -- What the bytes of a sheet come to.
 pub data Outcome : Type 0 where
   refused : Refusal → Outcome
-  accepted : Graph → Outcome
+  accepted : Content → Outcome
 
 -- 5: "a node has no tree edge"
 unfoldable pub bare : Graph → Bool
@@ -26,7 +35,7 @@ astray g = any (g .nodes) (λ l. any (g .nodes) (λ r. among (g .dominance) l r 
 
 -- "After the last command, in this order": 4, 5, 6.
 unfoldable pub whole : Graph → Outcome
-whole g = cond (cyclic g) (refused Tree) (cond (bare g) (refused Bare) (cond (astray g) (refused Ends) (accepted g)))
+whole g = cond (cyclic g) (refused Tree) (cond (bare g) (refused Bare) (cond (astray g) (refused Ends) (accepted (content g))))
 
 -- 0x02 and 0x03 take two operands
 unfoldable pub takesTwo : ℕ → Bool

@@ -10,7 +10,7 @@ use Rattle.graph.specs.Graph.{Graph, root, none}
 use Rattle.graph.specs.Placing.{at, Unsolvable}
 use Rattle.graph.specs.Order.{Listing, limit, countAnswer}
 use Rattle.format.specs.Refusal.{number}
-use Rattle.format.specs.Sheet.{Outcome, refused, accepted, longest}
+use Rattle.format.specs.Sheet.{Content, Outcome, refused, accepted, longest}
 use Rattle.format.specs.declared.Refusal.{Refusal}
 use Rattle.format.specs.declared.Refusal.the-variants.{NoReading}
 use Rattle.graph.specs.declared.Count.{Count}
@@ -73,5 +73,5 @@ judged input = take (suc longest) input
 -- What is printed of a sheet that comes to this: "A refusal is one line", also that it has no reading; or the list.
 pub data PrintedList : Outcome → List ℕ → Type 0 where
   refusal : (why : Refusal) → PrintedList (refused why) (refusedLine why)
-  no-reading : {g : Graph} → Unsolvable g → PrintedList (accepted g) (refusedLine NoReading)
-  readings : {g : Graph} (ps : List (List ℕ)) → Listing g ps → 0 < length ps → PrintedList (accepted g) (joined (printed g ps))
+  no-reading : {s : Content} → Unsolvable (s .graph) → PrintedList (accepted s) (refusedLine NoReading)
+  readings : {s : Content} (ps : List (List ℕ)) → Listing (s .graph) ps → 0 < length ps → PrintedList (accepted s) (joined (printed (s .graph) ps))

@@ -15,7 +15,7 @@ use Rattle.theory_edges.proofs.Edges.{parent-among}
 use Rattle.theory_edges.proofs.Ends.{root-below}
 use Rattle.base_tables.proofs.Parents.{parentless, inner-held, root-held}
 use Rattle.graph.specs.Graph.{Edge, Graph, entered, left, parent, root, leaf, none, rises, cyclic}
-use Rattle.format.specs.Sheet.{bare, astray, whole, refused, accepted}
+use Rattle.format.specs.Sheet.{bare, astray, whole, refused, accepted, content}
 use Rattle.format.specs.declared.Refusal.the-variants.{Tree, Bare, Ends}
 use Rattle.base_tables.specs.Tables.{Holds}
 use Rattle.base_tables.specs.Trees.{InnerSet, RootSet, innerIn, rootIn}
@@ -123,6 +123,6 @@ module _ (g : Graph) where
   unfolding whole
   whole-ends e f h = rw (e, f, h)
 
-  pub whole-accepted : cyclic g ≡ false → bare g ≡ false → astray g ≡ false → whole g ≡ accepted g
+  pub whole-accepted : cyclic g ≡ false → bare g ≡ false → astray g ≡ false → whole g ≡ accepted (content g)
   unfolding whole
   whole-accepted e f h = rw (e, f, h)

@@ -18,7 +18,7 @@ use Rattle.base_tables.specs.Tables.{Holds}
 use Rattle.sheet_commands.specs.Turn.{Reached}
 use Rattle.sheet_commands.specs.Run.{Blank, Ran}
 use Rattle.sheet_decode.specs.Judge.{Judged}
-use Rattle.sheet_decode.specs.Read.{stopOf, unacceptedOf, Decodes, Reads}
+use Rattle.sheet_decode.specs.Read.{stopOf, unacceptedOf, Decodes, Value, Reads}
 use Rattle.sheet_commands.specs.declared.turn.Run.{Run}
 use Rattle.sheet_commands.specs.declared.turn.Run.the-variants.{Going, Ended, Refused as RunRefused}
 use Rattle.sheet_decode.specs.declared.judge.Verdict.{Verdict}
@@ -87,4 +87,5 @@ pub reads-accepted : (o : Outcome) (x : Decoded) (parents low high : List ℕ) (
 unfolding Decodes
 reads-accepted o x parents low high r n k d e v en ep el eh ek =
     let h = rw e at d in
-    rw (h .1) (v, record { nodes = en ∙ sym (h .2); tables = rw (ep, el, eh, ek, h .2) (h .3) })
+    let value : Value (h .0) (r .graph) = record { nodes = en ∙ sym (h .2); tables = rw (ep, el, eh, ek, h .2) (h .3) } in
+    rw (h .1) (v, value, value)

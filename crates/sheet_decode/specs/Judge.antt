@@ -10,7 +10,7 @@ use Rattle.base_nodeset.specs.Set.{mem}
 use Rattle.base_tables.specs.Rows.{inRow}
 use Rattle.base_nodeset.specs.declared.NodeSet.{NodeSet}
 use Rattle.graph.specs.Graph.{Edge, none}
-use Rattle.format.specs.Sheet.{refused, accepted, whole}
+use Rattle.format.specs.Sheet.{refused, accepted, content, whole}
 use Rattle.sheet_decode.specs.declared.judge.Verdict.{Verdict}
 use Rattle.sheet_decode.specs.declared.judge.Verdict.the-variants.{Accepted, Refused}
 
@@ -31,5 +31,5 @@ astrayIn n low high inner roots = any n (λ l. strays (inRow low high l) l inner
 -- What a verdict says of `whole`.
 abbrev pub Judged : ℕ → List Edge → List Edge → Verdict → Type 0
 Judged n t d Accepted =
-    whole (record { nodes = n; tree = t; dominance = d }) ≡ accepted (record { nodes = n; tree = t; dominance = d })
+    whole (record { nodes = n; tree = t; dominance = d }) ≡ accepted (content (record { nodes = n; tree = t; dominance = d }))
 Judged n t d (Refused why) = whole (record { nodes = n; tree = t; dominance = d }) ≡ refused why

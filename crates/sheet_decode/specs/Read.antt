@@ -3,7 +3,7 @@ use Prim.Native.Nat.{ℕ}
 use mathlib.Core.Path.{_≡_}
 use mathlib.Core.List.{List}
 use Rattle.graph.specs.Graph as spec
-use Rattle.format.specs.Sheet.{Outcome, refused, accepted}
+use Rattle.format.specs.Sheet.{Outcome, refused, accepted, content}
 use Rattle.base_tables.specs.Tables.{Holds}
 use Rattle.sheet_decode.specs.declared.judge.Verdict.{Verdict}
 use Rattle.sheet_decode.specs.declared.judge.Verdict.the-variants.{Accepted, Refused as VerdictRefused}
@@ -28,7 +28,7 @@ unacceptedOf (VerdictRefused why) = Refused why
 unfoldable pub Decodes : Outcome → Decoded → List ℕ → List ℕ → List ℕ → Type 0
 Decodes o (Refused why) parents low high = o ≡ refused why
 Decodes o (Filled n k) parents low high =
-    (g : spec.Graph) × (o ≡ accepted g) × (g .nodes ≡ n) × Holds n (g .tree) (g .dominance) parents low high k
+    (g : spec.Graph) × (o ≡ accepted (content g)) × (g .nodes ≡ n) × Holds n (g .tree) (g .dominance) parents low high k
 
 -- The value is the graph's.
 pub record Value (g : spec.Graph) (v : Graph) : Type 0 where
@@ -38,4 +38,4 @@ pub record Value (g : spec.Graph) (v : Graph) : Type 0 where
 -- The answer to a sheet with the outcome o.
 abbrev pub Reads : Outcome → Answer → Type 0
 Reads (refused why) r = r .verdict ≡ VerdictRefused why
-Reads (accepted g) r = (r .verdict ≡ Accepted) × Value g (r .graph)
+Reads (accepted s) r = (r .verdict ≡ Accepted) × Value (s .written) (r .graph) × Value (s .graph) (r .graph)

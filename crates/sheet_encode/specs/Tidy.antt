@@ -59,4 +59,4 @@ TidiesTo g r old new =
 -- other refusals write nothing."
 abbrev pub Tidies : Outcome → Tidied → List ℕ → List ℕ → Type 0
 Tidies (refused why) r old new = (r ≡ Refused why) × (new ≡ old)
-Tidies (accepted g) r old new = TidiesTo g r old new
+Tidies (accepted s) r old new = TidiesTo (s .written) r old new

@@ -57,7 +57,7 @@ fragments-length g = length-spread 1 (g .nodes) (root g) (λ r. fragment g r ∷
 
 -- the tables
 
-module _ (g : Graph) (parents : List ℕ) (shaped : Shaped g) (tree : TreeOf g (g .nodes) parents) where
+module _ (written g : Graph) (parents : List ℕ) (shaped : Shaped g) (tree : TreeOf g (g .nodes) parents) where
   few : g .nodes ≤ 128
   few = shaped .few-nodes
 
@@ -71,7 +71,7 @@ module _ (g : Graph) (parents : List ℕ) (shaped : Shaped g) (tree : TreeOf g (
         ∙ count-cut 128 (g .nodes) (root g) few (λ v _ t. root-below g v t)
         ∙ sym (fragments-length g)
 
-    too-small : (out : List ℕ) → length out < 3 * count 128 (mem roots) → Tabled (accepted g) (Refused SmallBuffer) out out
+    too-small : (out : List ℕ) → length out < 3 * count 128 (mem roots) → Tabled (accepted (record { written = written; graph = g })) (Refused SmallBuffer) out out
     too-small out h =
         let less = lt-ltb (length out) (3 * length (fragments g)) (rw (← roots-counted) h) in
         record { answer = rw less; bytes = rw less }
@@ -109,7 +109,7 @@ module _ (g : Graph) (parents : List ℕ) (shaped : Shaped g) (tree : TreeOf g (
       unfolding recordsBelow fragments
       records-held = spread-ext (g .nodes) _ _ (λ r _. record-held r) ∙ sym (flat-spread (g .nodes) (λ r. cond (root g r) (fragment g r ∷ []) []))
 
-      all-written : (old new : List ℕ) → 3 * count 128 (mem roots) ≤ length old → new ≡ sets old 0 (recordsIn (g .nodes) owner inner roots) → Tabled (accepted g) (Filled (count 128 (mem roots))) old new
+      all-written : (old new : List ℕ) → 3 * count 128 (mem roots) ≤ length old → new ≡ sets old 0 (recordsIn (g .nodes) owner inner roots) → Tabled (accepted (record { written = written; graph = g })) (Filled (count 128 (mem roots))) old new
       all-written old new h e =
           let fits : 3 * length (fragments g) ≤ length old = rw (← roots-counted) h in
           let enough = le-ltb (length old) (3 * length (fragments g)) fits in
@@ -122,13 +122,13 @@ module _ (g : Graph) (parents : List ℕ) (shaped : Shaped g) (tree : TreeOf g (
 -- the answers of the table, from the set of roots and their number m
 module _ (n : ℕ) (parents : List ℕ) (roots : NodeSet) (is-roots : RootSet n parents roots) (m : ℕ) (is-count : m ≡ count 128 (mem roots)) where
   pub small-table : (out : List ℕ) → length out < 3 * m → TableIn n parents (Refused SmallBuffer) out out
-  small-table out h g low high edges t =
+  small-table out h s low high edges t =
       let e = t .nodes in
-      too-small g parents (well-formed-shaped (t .well-formed)) (rw e at (tree-of t)) roots (rw e at is-roots) out (rw is-count at h)
+      too-small (s .written) (s .graph) parents (well-formed-shaped (t .well-formed)) (rw e at (tree-of t)) roots (rw e at is-roots) out (rw is-count at h)
 
   pub full-table : (inner : NodeSet) (start owner : List ℕ) → InnerSet n parents inner → Owned n parents start owner n → (old new : List ℕ) → 3 * m ≤ length old
       → new ≡ sets old 0 (recordsIn n owner inner roots) → TableIn n parents (Filled m) old new
-  full-table inner start owner is-inner is-owner old new h f g low high edges t =
+  full-table inner start owner is-inner is-owner old new h f s low high edges t =
       let e = t .nodes in
       rw is-count
-      (all-written g parents (well-formed-shaped (t .well-formed)) (rw e at (tree-of t)) roots (rw e at is-roots) inner owner (rw e at is-inner) (rw e at (is-owner .top-is)) old new (rw is-count at h) (rw e at f))
+      (all-written (s .written) (s .graph) parents (well-formed-shaped (t .well-formed)) (rw e at (tree-of t)) roots (rw e at is-roots) inner owner (rw e at is-inner) (rw e at (is-owner .top-is)) old new (rw is-count at h) (rw e at f))

@@ -13,7 +13,7 @@ use Rattle.base_finite.proofs.Laws.{by-bool, count-le}
 use Rattle.base_finite.proofs.Counting.{length-entries, entry-at}
 use Rattle.base_finite.proofs.Runs.{sets-append}
 use Rattle.graph.specs.Graph.{Graph, root}
-use Rattle.format.specs.Sheet.{Outcome, refused, accepted, outcome}
+use Rattle.format.specs.Sheet.{Content, Outcome, refused, accepted, outcome}
 use Rattle.graph.specs.Table.{fragments}
 use Rattle.graph.specs.declared.Fragment.{Fragment}
 use Rattle.format.specs.declared.Refusal.{Refusal}
@@ -54,30 +54,30 @@ records-back fs rest =
 
 -- the answer of the table of bytes, which has room for the records of any sheet
 
-few-fragments : (bs : List ℕ) (g : Graph) → outcome bs ≡ accepted g → length (fragments g) ≤ 128
-few-fragments bs g e = omega (arith, fragments-length g, count-le (g .nodes) (root g), accepted-well-formed bs g e .few-nodes)
+few-fragments : (bs : List ℕ) (s : Content) → outcome bs ≡ accepted s → length (fragments (s .graph)) ≤ 128
+few-fragments bs s e = omega (arith, fragments-length (s .graph), count-le (s .graph .nodes) (root (s .graph)), accepted-well-formed bs s e .few-nodes)
 
 module _ (old new : List ℕ) (long : length old ≡ 384) (room : ℕ) where
   enough : (g : Graph) → length (fragments g) ≤ 128 → ltb (length old) (3 * length (fragments g)) ≡ false
   enough g few = le-ltb (length old) (3 * length (fragments g)) (omega (arith, few, long))
 
-  refused-as : (o : Outcome) → ((g : Graph) → o ≡ accepted g → length (fragments g) ≤ 128) → (why : Refusal) → Tabled o (Refused why) old new
+  refused-as : (o : Outcome) → ((s : Content) → o ≡ accepted s → length (fragments (s .graph)) ≤ 128) → (why : Refusal) → Tabled o (Refused why) old new
       → Prepares o room (record { answer = Refused why; count = 0; bytes = new })
   unfolding recordsIn spread
   refused-as (refused k) few why t = record { answer = t .answer; holds = refl; few = zero-le }
-  refused-as (accepted g) few why t =
-      let said : Refused why ≡ Filled (length (fragments g)) = rw (enough g (few g refl)) at (t .answer) in
+  refused-as (accepted s) few why t =
+      let said : Refused why ≡ Filled (length (fragments (s .graph))) = rw (enough (s .graph) (few s refl)) at (t .answer) in
       absurd (let z : _≡_ {A = ℕ} 0 1 = cc in omega arith)
 
-  filled-as : (o : Outcome) → ((g : Graph) → o ≡ accepted g → length (fragments g) ≤ 128) → (k : ℕ) → Tabled o (Filled k) old new
-      → (g : Graph) × (o ≡ accepted g) × (k ≡ length (fragments g)) × (recordsIn k new ≡ fragments g)
+  filled-as : (o : Outcome) → ((s : Content) → o ≡ accepted s → length (fragments (s .graph)) ≤ 128) → (k : ℕ) → Tabled o (Filled k) old new
+      → (s : Content) × (o ≡ accepted s) × (k ≡ length (fragments (s .graph))) × (recordsIn k new ≡ fragments (s .graph))
   filled-as (refused why) few k t = absurd (let said = t .answer in let z : _≡_ {A = ℕ} 0 1 = cc in omega arith)
-  filled-as (accepted g) few k t =
-      let e = enough g (few g refl) in
-      let said : Filled k ≡ Filled (length (fragments g)) = rw e at (t .answer) in
-      let same : k ≡ length (fragments g) = cc in
-      let bytes : new ≡ flat (fragments g) ++ drop (3 * length (fragments g)) old = rw e at (t .bytes) in
-      (g, refl, same, rw (same, bytes) (records-back (fragments g) (drop (3 * length (fragments g)) old)))
+  filled-as (accepted s) few k t =
+      let e = enough (s .graph) (few s refl) in
+      let said : Filled k ≡ Filled (length (fragments (s .graph))) = rw e at (t .answer) in
+      let same : k ≡ length (fragments (s .graph)) = cc in
+      let bytes : new ≡ flat (fragments (s .graph)) ++ drop (3 * length (fragments (s .graph))) old = rw e at (t .bytes) in
+      (s, refl, same, rw (same, bytes) (records-back (fragments (s .graph)) (drop (3 * length (fragments (s .graph))) old)))
 
   module _ (bs : List ℕ) (r : Table) (told : Tabled (outcome bs) r old new) where
     pub prepares-refused : (why : Refusal) → r ≡ Refused why → Prepares (outcome bs) room (record { answer = Refused why; count = 0; bytes = new })
@@ -91,7 +91,7 @@ module _ (old new : List ℕ) (long : length old ≡ 384) (room : ℕ) where
       unfolding recordsIn spread
       prepares-small h =
           let f = filled-as (outcome bs) (few-fragments bs) k t in
-          let less : ltb room (length (fragments (f .0))) ≡ true = lt-ltb room (length (fragments (f .0))) (rw (f .2) at h) in
+          let less : ltb room (length (fragments (f .0 .graph))) ≡ true = lt-ltb room (length (fragments (f .0 .graph))) (rw (f .2) at h) in
           rw (f .1) (record { answer = rw less; holds = rw less; few = zero-le })
 
       -- as many are stored as there are fragments
@@ -99,7 +99,7 @@ module _ (old new : List ℕ) (long : length old ≡ 384) (room : ℕ) where
       prepares-filled count c h =
           let f = filled-as (outcome bs) (few-fragments bs) k t in
           let few : k ≤ 128 = rw (f .2) (few-fragments bs (f .0) (f .1)) in
-          let fits : ltb room (length (fragments (f .0))) ≡ false = le-ltb room (length (fragments (f .0))) (rw (f .2) at h) in
+          let fits : ltb room (length (fragments (f .0 .graph))) ≡ false = le-ltb room (length (fragments (f .0 .graph))) (rw (f .2) at h) in
           rw (c, f .1) (record { answer = rw fits (ap Filled (f .2)); holds = rw fits (f .3); few = few })
 
 -- the table with the first k records stored, one after the other
@@ -122,20 +122,20 @@ stores-are bs old (suc k) =
 
 stored-fits : (o : Outcome) (room : ℕ) → length (stored o room) ≤ room
 stored-fits (refused why) room = zero-le
-stored-fits (accepted g) room =
-    by-bool (ltb room (length (fragments g)))
-    (λ (e : ltb room (length (fragments g)) ≡ true). rw e zero-le)
-    (λ (e : ltb room (length (fragments g)) ≡ false). rw e (ltb-false room (length (fragments g)) e))
+stored-fits (accepted s) room =
+    by-bool (ltb room (length (fragments (s .graph))))
+    (λ (e : ltb room (length (fragments (s .graph))) ≡ true). rw e zero-le)
+    (λ (e : ltb room (length (fragments (s .graph))) ≡ false). rw e (ltb-false room (length (fragments (s .graph))) e))
 
 -- stores of the records leave what the answer says
 stored-is : (o : Outcome) (old : List Fragment) → sets old 0 (stored o (length old)) ≡ recordsOf o old
 stored-is (refused why) old = refl
-stored-is (accepted g) old =
-    by-bool (ltb (length old) (length (fragments g)))
-    (λ (e : ltb (length old) (length (fragments g)) ≡ true). rw e refl)
-    (λ (e : ltb (length old) (length (fragments g)) ≡ false).
-    let first : 0 + length (fragments g) ≡ length (fragments g) = omega arith in
-    rw e (sets-eq (fragments g) old 0 (rw first (ltb-false (length old) (length (fragments g)) e)) ∙ rw first refl))
+stored-is (accepted s) old =
+    by-bool (ltb (length old) (length (fragments (s .graph))))
+    (λ (e : ltb (length old) (length (fragments (s .graph))) ≡ true). rw e refl)
+    (λ (e : ltb (length old) (length (fragments (s .graph))) ≡ false).
+    let first : 0 + length (fragments (s .graph)) ≡ length (fragments (s .graph)) = omega arith in
+    rw e (sets-eq (fragments (s .graph)) old 0 (rw first (ltb-false (length old) (length (fragments (s .graph))) e)) ∙ rw first refl))
 
 module _ (o : Outcome) (old : List Fragment) (r : Records) (p : Prepares o (length old) r) where
   pub prepares-fits : r .count ≤ length old

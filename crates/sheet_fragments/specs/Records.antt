@@ -17,12 +17,12 @@ use Rattle.sheet_fragments.specs.declared.records.Records.{Records}
 -- the sheet's own refusals, then 10: "one record per fragment"
 abbrev pub answerOf : Outcome → ℕ → Table
 answerOf (refused why) room = Refused why
-answerOf (accepted g) room = cond (ltb room (length (fragments g))) (Refused SmallBuffer) (Filled (length (fragments g)))
+answerOf (accepted s) room = cond (ltb room (length (fragments (s .graph)))) (Refused SmallBuffer) (Filled (length (fragments (s .graph))))
 
 -- "later records stay unwritten", and a refusal writes nothing
 abbrev pub recordsOf : Outcome → List Fragment → List Fragment
 recordsOf (refused why) table = table
-recordsOf (accepted g) table = cond (ltb (length table) (length (fragments g))) table (fragments g ++ drop (length (fragments g)) table)
+recordsOf (accepted s) table = cond (ltb (length table) (length (fragments (s .graph)))) table (fragments (s .graph) ++ drop (length (fragments (s .graph))) table)
 
 -- The answer r to a sheet with the outcome o, and the lent records before and after.
 pub record Recorded (o : Outcome) (r : Table) (old new : List Fragment) : Type 0 where
@@ -42,7 +42,7 @@ recordsIn n bs = spread n (λ k. recordAt bs k ∷ [])
 -- the records that are stored in a table with room for so many
 abbrev pub stored : Outcome → ℕ → List Fragment
 stored (refused why) room = []
-stored (accepted g) room = cond (ltb room (length (fragments g))) [] (fragments g)
+stored (accepted s) room = cond (ltb room (length (fragments (s .graph)))) [] (fragments (s .graph))
 
 pub record Prepares (o : Outcome) (room : ℕ) (r : Records) : Type 0 where
   pub answer : r .answer ≡ answerOf o room

@@ -6,7 +6,7 @@ use mathlib.Core.Bool.{cond}
 use lib.Dec.{ltb}
 use lib.ListN.{length, drop}
 use Rattle.graph.specs.Graph.{Graph}
-use Rattle.format.specs.Sheet.{Outcome, refused, accepted}
+use Rattle.format.specs.Sheet.{Content, Outcome, refused, accepted}
 use Rattle.graph.specs.Table.{fragments}
 use Rattle.graph.specs.declared.Fragment.{Fragment}
 use Rattle.format.specs.declared.Refusal.the-variants.{SmallBuffer}
@@ -26,19 +26,19 @@ size g = 3 * length (fragments g)
 -- the sheet's own refusals, then 10
 abbrev pub answerOf : Outcome → List ℕ → Table
 answerOf (refused why) out = Refused why
-answerOf (accepted g) out = cond (ltb (length out) (size g)) (Refused SmallBuffer) (Filled (length (fragments g)))
+answerOf (accepted s) out = cond (ltb (length out) (size (s .graph))) (Refused SmallBuffer) (Filled (length (fragments (s .graph))))
 
 -- "later records stay unwritten", and a refusal writes nothing
 abbrev pub bytesOf : Outcome → List ℕ → List ℕ
 bytesOf (refused why) out = out
-bytesOf (accepted g) out = cond (ltb (length out) (size g)) out (flat (fragments g) ++ drop (size g) out)
+bytesOf (accepted s) out = cond (ltb (length out) (size (s .graph))) out (flat (fragments (s .graph)) ++ drop (size (s .graph)) out)
 
 -- The answer r to a sheet with the outcome o, and the lent bytes before and after.
 pub record Tabled (o : Outcome) (r : Table) (old new : List ℕ) : Type 0 where
   pub answer : r ≡ answerOf o old
   pub bytes : new ≡ bytesOf o old
 
--- What the table of parents says of each graph that it holds.
+-- What the table of parents says of each sheet whose graph it holds.
 abbrev pub TableIn : ℕ → List ℕ → Table → List ℕ → List ℕ → Type 0
 TableIn n parents r old new =
-    (g : Graph) (low high : List ℕ) (edges : ℕ) → Tables g n parents low high edges → Tabled (accepted g) r old new
+    (s : Content) (low high : List ℕ) (edges : ℕ) → Tables (s .graph) n parents low high edges → Tabled (accepted s) r old new

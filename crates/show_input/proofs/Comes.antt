@@ -30,4 +30,4 @@ refusal-fits (ready b same) e = absurd (true≢false (sym e ∙ b .listed))
 pub ready-of : {old : List ℕ} {r : Input} {new : List ℕ} {o : Outcome} → ComesTo old r new o → r .refused ≡ false → (g : Graph) × Ready g r
 ready-of (refusal f) e = absurd (true≢false (sym (f .alone) ∙ e))
 ready-of (no-reading none f) e = absurd (true≢false (sym (f .alone) ∙ e))
-ready-of (ready {g} b same) e = (g, b)
+ready-of (ready {s} b same) e = (s .graph, b)

@@ -6,7 +6,7 @@ use mathlib.Core.Bool.{true, false}
 use lib.ListN.{length}
 use Rattle.graph.specs.Graph.{Graph}
 use Rattle.graph.specs.Placing.{Unsolvable}
-use Rattle.format.specs.Sheet.{Outcome, refused, accepted}
+use Rattle.format.specs.Sheet.{Content, Outcome, refused, accepted}
 use Rattle.format.specs.declared.Refusal.{Refusal}
 use Rattle.format.specs.declared.Refusal.the-variants.{NoReading}
 use Rattle.format.specs.Text.{refusedLine}
@@ -33,5 +33,5 @@ pub record Ready (g : Graph) (r : Input) : Type 0 where
 -- by what the bytes that count come to
 pub data ComesTo (old : List ℕ) (r : Input) (new : List ℕ) : Outcome → Type 0 where
   refusal : {why : Refusal} → Refuses why old r new → ComesTo old r new (refused why)
-  no-reading : {g : Graph} → Unsolvable g → Refuses NoReading old r new → ComesTo old r new (accepted g)
-  ready : {g : Graph} → Ready g r → new ≡ old → ComesTo old r new (accepted g)
+  no-reading : {s : Content} → Unsolvable (s .graph) → Refuses NoReading old r new → ComesTo old r new (accepted s)
+  ready : {s : Content} → Ready (s .graph) r → new ≡ old → ComesTo old r new (accepted s)

@@ -10,8 +10,8 @@ use sheet_decode::read::read;
 use solve_start::begin;
 ghost use Prim.Native.Nat.{suc, _≤_};
 ghost use lib.ListN.{length, take};
-ghost use Rattle.format.specs.Sheet.{longest, outcome, accepted};
-ghost use Rattle.base_tables.specs.Tables.{SheetTables};
+ghost use Rattle.format.specs.Sheet.{Content, longest, outcome, accepted};
+ghost use Rattle.base_tables.specs.Tables.{Tables, SheetTables};
 ghost use Rattle.show_input.specs.Input.{Refuses, ComesTo};
 
 // A byte more than a sheet may have: so much of an input tells whether it is too long.
@@ -55,8 +55,8 @@ fn refuse(why: Refusal, out: &mut [u8]) -> Input
 fn prepare(graph: Graph, out: &mut [u8]) -> Input
     requires { ⌜ SheetTables (graph .n) (graph .parent) (graph .low) (graph .high) × (40 ≤ length (now out)) ⌝ }
     ensures { λ r. ⌜
-        ((s : SheetTables (graph .n) (graph .parent) (graph .low) (graph .high)) →
-        ComesTo (now (out .entry)) r (now (out .exit)) (accepted (s .graph)))
+        ((s : Content) → Tables (s .graph) (graph .n) (graph .parent) (graph .low) (graph .high) (graph .edges) →
+        ComesTo (now (out .entry)) r (now (out .exit)) (accepted s))
         ⌝ }
 {
     let parent = graph.parent;

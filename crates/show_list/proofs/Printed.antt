@@ -8,7 +8,7 @@ use lib.ListN.{length, take}
 use Rattle.base_finite.specs.Stores.{joined}
 use Rattle.graph.specs.Graph.{Graph}
 use Rattle.graph.specs.Order.{limit, countAnswer}
-use Rattle.format.specs.Sheet.{Outcome, refused, accepted, outcome}
+use Rattle.format.specs.Sheet.{Content, Outcome, refused, accepted, outcome}
 use Rattle.format.specs.Text.{countLine, printed, judged, PrintedList, refusal as refused-line, no-reading as none-printed, readings}
 use Rattle.theory_format.proofs.Length.{judged-tells}
 use Rattle.theory_list.specs.Readings.{listed}
@@ -34,27 +34,28 @@ rest-printed g s _ u (further t {texts} e call p) =
 -- a refusal's line, of the sheet or of the sentence
 refused-printed : (o : Outcome) {old new : List ℕ} (r : Input) → ComesTo old r new o → r .refused ≡ true → PrintedList o (take (r .bytes) new)
 refused-printed (refused why) r (refusal f) e = subst (PrintedList (refused why)) (sym (shown-is _ _ _ _ (f .shown))) (refused-line why)
-refused-printed (accepted g) r (no-reading none f) e = subst (PrintedList (accepted g)) (sym (shown-is _ _ _ _ (f .shown))) (none-printed none)
-refused-printed (accepted g) r (ready b same) e = absurd (true≢false (sym e ∙ b .listed))
+refused-printed (accepted s) r (no-reading none f) e = subst (PrintedList (accepted s)) (sym (shown-is _ _ _ _ (f .shown))) (none-printed none)
+refused-printed (accepted s) r (ready b same) e = absurd (true≢false (sym e ∙ b .listed))
 
 -- line 1 and the lines
-list-printed : (g : Graph) {out : List ℕ} (s : State) (texts : List (List ℕ)) → Begins g out (s .page) (s .states) (s .trail) (s .held) (s .out) → Pages s texts
-    → PrintedList (accepted g) (joined (shownBy s ∷ texts))
+list-printed : (x : Content) {out : List ℕ} (s : State) (texts : List (List ℕ)) → Begins (x .graph) out (s .page) (s .states) (s .trail) (s .held) (s .out) → Pages s texts
+    → PrintedList (accepted x) (joined (shownBy s ∷ texts))
 unfolding joined
-list-printed g s texts b p =
+list-printed x s texts b p =
+    let g : Graph = x .graph in
     let all : joined (printed g (listed g)) ≡ joined (shownBy s ∷ texts) =
     printed-is g
     ∙ sym (ap (λ (ls : List ℕ). ls ++ joined texts) (shown-is _ _ _ _ (b .shown))
     ∙ ap (λ (ls : List ℕ). countLine (countAnswer (length (listed g))) ++ ls)
     (rest-printed g s texts (b .underway) p ∙ ap (λ (k : ℕ). lines g k (min (length (listed g)) limit)) (b .start))) in
-    subst (PrintedList (accepted g)) all (readings (listed g) (listing-exists g (b .underway .fits .shaped)) (b .some))
+    subst (PrintedList (accepted x)) all (readings (listed g) (listing-exists g (b .underway .fits .shaped)) (b .some))
 
 pages-printed : (o : Outcome) {old new : List ℕ} (r : Input) → ComesTo old r new o → r .refused ≡ false
     → {out : List ℕ} (s : State) (texts : List (List ℕ)) → ((g : Graph) → Ready g r → Begins g out (s .page) (s .states) (s .trail) (s .held) (s .out)) → Pages s texts
     → PrintedList o (joined (shownBy s ∷ texts))
 pages-printed (refused why) r (refusal f) e s texts call p = absurd (true≢false (sym (f .alone) ∙ e))
-pages-printed (accepted g) r (no-reading none f) e s texts call p = absurd (true≢false (sym (f .alone) ∙ e))
-pages-printed (accepted g) r (ready b same) e s texts call p = list-printed g s texts (call g b) p
+pages-printed (accepted x) r (no-reading none f) e s texts call p = absurd (true≢false (sym (f .alone) ∙ e))
+pages-printed (accepted x) r (ready b same) e s texts call p = list-printed x s texts (call (x .graph) b) p
 
 -- "The printed list", of any input: a refusal's line, or line 1 and a line for each reading with a number
 pub run-printed : (input : List ℕ) (texts : List (List ℕ)) → Run input texts → PrintedList (outcome input) (joined texts)

@@ -11,7 +11,7 @@ use lib.ListN.{length}
 use borrow.Author.Tests.{eqb-true, leb-true, not-true}
 use Rattle.base_finite.proofs.Laws.{and-both}
 use Rattle.graph.specs.Graph.{Graph}
-use Rattle.format.specs.Sheet.{Outcome, refused, accepted, outcome}
+use Rattle.format.specs.Sheet.{Content, Outcome, refused, accepted, outcome}
 use Rattle.graph.specs.Placing.{SolvedForm}
 use Rattle.graph.specs.Order.{entry}
 use Rattle.graph.specs.Rule1.{Rule1}
@@ -80,12 +80,12 @@ test (refused why) (not-hypernormal cs) = false
 test (refused why) (lists ls) = false
 test (refused why) (drawn k text) = false
 test (refused why) (configured-to q) = false
-test (accepted g) (refusal k) = false
-test (accepted g) (no-reading k cs) = eqb (number NoReading) k && hypernormalCycle g cs
-test (accepted g) (not-hypernormal cs) = cycle g cs && not (hypernormal g cs)
-test (accepted g) (lists ls) = sameLines ls (printed g (listed g))
-test (accepted g) (drawn k text) = testDrawn g (listed g) k text
-test (accepted g) (configured-to q) = testConfigured g (listed g) q
+test (accepted s) (refusal k) = false
+test (accepted s) (no-reading k cs) = eqb (number NoReading) k && hypernormalCycle (s .graph) cs
+test (accepted s) (not-hypernormal cs) = cycle (s .graph) cs && not (hypernormal (s .graph) cs)
+test (accepted s) (lists ls) = sameLines ls (printed (s .graph) (listed (s .graph)))
+test (accepted s) (drawn k text) = testDrawn (s .graph) (listed (s .graph)) k text
+test (accepted s) (configured-to q) = testConfigured (s .graph) (listed (s .graph)) q
 
 unfoldable pub holds? : List ℕ → Claim → Bool
 unfolding test
@@ -93,9 +93,12 @@ holds? bs c = test (outcome bs) c
 
 -- the law
 
-module _ (bs : List ℕ) (g : Graph) (e : outcome bs ≡ accepted g) where
+module _ (bs : List ℕ) (s : Content) (e : outcome bs ≡ accepted s) where
+  abbrev g : Graph
+  g = s .graph
+
   shaped : Shaped g
-  shaped = well-formed-shaped (accepted-well-formed bs g e)
+  shaped = well-formed-shaped (accepted-well-formed bs s e)
 
   drawn-tested : (k : ℕ) (text : List ℕ) → testDrawn g (listed g) k text ≡ true → Holds bs (drawn k text)
   unfolding testDrawn
@@ -104,7 +107,7 @@ module _ (bs : List ℕ) (g : Graph) (e : outcome bs ≡ accepted g) where
       let a = and-both (leb 1 k && leb k (length ps)) (same text (drawing g (entry ps (k - 1)))) h in
       let b = and-both (leb 1 k) (leb k (length ps)) (a .0) in
       record {
-        graph = g;
+        content = s;
         is-accepted = e;
         readings = ps;
         listing = listing-exists g shaped;
@@ -122,30 +125,30 @@ module _ (bs : List ℕ) (g : Graph) (e : outcome bs ≡ accepted g) where
       let solved : SolvedForm g p = listing-exists g shaped .only-readings 0 (leb-true 1 (length ps) (a .0)) .solved in
       let reached : Rule1 g p q = subst (Rule1 g p) (same-equal (configured g p) q (a .1)) (configured-reaches g p shaped solved) in
       record {
-        graph = g;
+        content = s;
         is-accepted = e;
         handed-out = record { readings = ps; listing = listing-exists g shaped; reached = reached };
         is-configuration = rule1-configuration shaped reached solved;
       }
 
-  accepted-tested : (c : Claim) → test (accepted g) c ≡ true → Holds bs c
+  accepted-tested : (c : Claim) → test (accepted s) c ≡ true → Holds bs c
   unfolding test
   accepted-tested (refusal k) h = absurd (false≢true h)
   accepted-tested (no-reading k cs) h =
       let a = and-both (eqb (number NoReading) k) (hypernormalCycle g cs) h in
       record {
-        graph = g;
+        content = s;
         is-accepted = e;
         its-number = eqb-true (number NoReading) k (a .0);
-        unsolvable = no-both g cs (accepted-well-formed bs g e) (a .1);
+        unsolvable = no-both g cs (accepted-well-formed bs s e) (a .1);
         its-cycle = a .1;
       }
   accepted-tested (not-hypernormal cs) h =
       let a = and-both (cycle g cs) (not (hypernormal g cs)) h in
-      record { graph = g; is-accepted = e; is-cycle = a .0; is-other = not-true (hypernormal g cs) (a .1) }
+      record { content = s; is-accepted = e; is-cycle = a .0; is-other = not-true (hypernormal g cs) (a .1) }
   accepted-tested (lists ls) h =
       record {
-        graph = g;
+        content = s;
         is-accepted = e;
         readings = listed g;
         listing = listing-exists g shaped;
@@ -165,4 +168,4 @@ tested bs c h = go (outcome bs) refl c h
     go (refused why) e (lists ls) h = absurd (false≢true h)
     go (refused why) e (drawn k text) h = absurd (false≢true h)
     go (refused why) e (configured-to q) h = absurd (false≢true h)
-    go (accepted g) e c h = accepted-tested bs g e c h
+    go (accepted s) e c h = accepted-tested bs s e c h

@@ -8,7 +8,7 @@ use mathlib.Core.List.{List}
 use native.Mathlib.Omega.{arith}
 use lib.ListN.{length}
 use Rattle.graph.specs.Graph.{Graph, WellFormed}
-use Rattle.format.specs.Sheet.{outcome, accepted}
+use Rattle.format.specs.Sheet.{Content, outcome, accepted}
 use Rattle.graph.specs.Placing.{SolvedForm, Solvable}
 use Rattle.graph.specs.Order.{Listing, entry}
 use Rattle.graph.specs.Rule1.{Rule1, HandedOut}
@@ -27,28 +27,30 @@ unfolding rows
 thirteen-rows = refl
 
 -- the square, by the row of its configuration
-pub some-solvable : (g : Graph) × (outcome square ≡ accepted g) × WellFormed g × SolvedForm g square-placing
+pub some-solvable : (s : Content) × (outcome square ≡ accepted s) × WellFormed (s .graph) × SolvedForm (s .graph) square-placing
 unfolding rows square square-placing
 some-solvable =
     let h : ConfiguredTo square square-placing = all-hold 8 (omega arith) in
-    (h .graph, h .is-accepted, accepted-well-formed square (h .graph) (h .is-accepted), h .is-configuration .solved)
+    (h .content, h .is-accepted, accepted-well-formed square (h .content) (h .is-accepted), h .is-configuration .solved)
 
 -- 0-1, 0-2, 3-4 with 1-3, 2-3, which has no directed cycle
-pub some-unsolvable : (g : Graph) × (outcome fork ≡ accepted g) × WellFormed g × (Solvable g → ⊥)
+pub some-unsolvable : (s : Content) × (outcome fork ≡ accepted s) × WellFormed (s .graph) × (Solvable (s .graph) → ⊥)
 unfolding rows fork
 some-unsolvable =
     let h = all-hold 5 (omega arith) in
-    (h .graph, h .is-accepted, accepted-well-formed fork (h .graph) (h .is-accepted), h .unsolvable)
+    (h .content, h .is-accepted, accepted-well-formed fork (h .content) (h .is-accepted), h .unsolvable)
 
 -- one value for each claim
 
-same-graph : (bs : List ℕ) (g h : Graph) → outcome bs ≡ accepted g → outcome bs ≡ accepted h → g ≡ h
-same-graph bs g h p q = cc
+same-graph : (bs : List ℕ) (s t : Content) → outcome bs ≡ accepted s → outcome bs ≡ accepted t → s .graph ≡ t .graph
+same-graph bs s t p q =
+    let same : s ≡ t = cc in
+    ap (λ (x : Content). x .graph) same
 
-same-readings : (bs : List ℕ) (g h : Graph) (ps qs : List (List ℕ)) → outcome bs ≡ accepted g → outcome bs ≡ accepted h → Listing g ps → Listing h qs → ps ≡ qs
-same-readings bs g h ps qs p q x y =
-    let e : g ≡ h = same-graph bs g h p q in
-    listing-unique g (well-formed-shaped (accepted-well-formed bs g p)) x (subst (λ (z : Graph). Listing z qs) (sym e) y)
+same-readings : (bs : List ℕ) (s t : Content) (ps qs : List (List ℕ)) → outcome bs ≡ accepted s → outcome bs ≡ accepted t → Listing (s .graph) ps → Listing (t .graph) qs → ps ≡ qs
+same-readings bs s t ps qs p q x y =
+    let e : s .graph ≡ t .graph = same-graph bs s t p q in
+    listing-unique (s .graph) (well-formed-shaped (accepted-well-formed bs s p)) x (subst (λ (z : Graph). Listing z qs) (sym e) y)
 
 pub one-number : (bs : List ℕ) (k m : ℕ) → Holds bs (refusal k) → Holds bs (refusal m) → k ≡ m
 one-number bs k m x y =
@@ -57,20 +59,20 @@ one-number bs k m x y =
 
 pub one-list : (bs : List ℕ) (ls ms : List (List ℕ)) → Holds bs (lists ls) → Holds bs (lists ms) → ls ≡ ms
 one-list bs ls ms x y =
-    let e : x .graph ≡ y .graph = same-graph bs (x .graph) (y .graph) (x .is-accepted) (y .is-accepted) in
-    let d : x .readings ≡ y .readings = same-readings bs (x .graph) (y .graph) (x .readings) (y .readings) (x .is-accepted) (y .is-accepted) (x .listing) (y .listing) in
+    let e : x .content .graph ≡ y .content .graph = same-graph bs (x .content) (y .content) (x .is-accepted) (y .is-accepted) in
+    let d : x .readings ≡ y .readings = same-readings bs (x .content) (y .content) (x .readings) (y .readings) (x .is-accepted) (y .is-accepted) (x .listing) (y .listing) in
     x .its-lines ∙ ap₂ printed e d ∙ sym (y .its-lines)
 
 pub one-drawing : (bs : List ℕ) (k : ℕ) (s t : List ℕ) → Holds bs (drawn k s) → Holds bs (drawn k t) → s ≡ t
 one-drawing bs k s t x y =
-    let e : x .graph ≡ y .graph = same-graph bs (x .graph) (y .graph) (x .is-accepted) (y .is-accepted) in
-    let d : x .readings ≡ y .readings = same-readings bs (x .graph) (y .graph) (x .readings) (y .readings) (x .is-accepted) (y .is-accepted) (x .listing) (y .listing) in
+    let e : x .content .graph ≡ y .content .graph = same-graph bs (x .content) (y .content) (x .is-accepted) (y .is-accepted) in
+    let d : x .readings ≡ y .readings = same-readings bs (x .content) (y .content) (x .readings) (y .readings) (x .is-accepted) (y .is-accepted) (x .listing) (y .listing) in
     x .its-text ∙ ap₂ (λ (g : Graph) (ps : List (List ℕ)). drawing g (entry ps (k - 1))) e d ∙ sym (y .its-text)
 
 pub one-configuration : (bs p q : List ℕ) → Holds bs (configured-to p) → Holds bs (configured-to q) → p ≡ q
 one-configuration bs p q x y =
-    let e : x .graph ≡ y .graph = same-graph bs (x .graph) (y .graph) (x .is-accepted) (y .is-accepted) in
-    let a : HandedOut (x .graph) p = x .handed-out in
-    let b : HandedOut (x .graph) q = subst (λ (g : Graph). HandedOut g q) (sym e) (y .handed-out) in
-    let d : b .readings ≡ a .readings = same-readings bs (x .graph) (x .graph) (b .readings) (a .readings) (x .is-accepted) (x .is-accepted) (b .listing) (a .listing) in
-    rule1-function (a .reached) (subst (λ (ps : List (List ℕ)). Rule1 (x .graph) (entry ps 0) q) d (b .reached))
+    let e : x .content .graph ≡ y .content .graph = same-graph bs (x .content) (y .content) (x .is-accepted) (y .is-accepted) in
+    let a : HandedOut (x .content .graph) p = x .handed-out in
+    let b : HandedOut (x .content .graph) q = subst (λ (g : Graph). HandedOut g q) (sym e) (y .handed-out) in
+    let d : b .readings ≡ a .readings = same-readings bs (x .content) (x .content) (b .readings) (a .readings) (x .is-accepted) (x .is-accepted) (b .listing) (a .listing) in
+    rule1-function (a .reached) (subst (λ (ps : List (List ℕ)). Rule1 (x .content .graph) (entry ps 0) q) d (b .reached))

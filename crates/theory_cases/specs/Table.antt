@@ -8,8 +8,7 @@ use mathlib.Core.Path.{_≡_}
 use mathlib.Core.List.{List, [], _∷_}
 use mathlib.Core.Bool.{true, false}
 use lib.ListN.{length, getD}
-use Rattle.graph.specs.Graph.{Graph}
-use Rattle.format.specs.Sheet.{outcome, refused, accepted}
+use Rattle.format.specs.Sheet.{Content, outcome, refused, accepted}
 use Rattle.graph.specs.Placing.{Configuration, Solvable}
 use Rattle.graph.specs.Order.{Listing, entry}
 use Rattle.graph.specs.Rule1.{HandedOut}
@@ -42,39 +41,39 @@ pub record Refused (bs : List ℕ) (k : ℕ) : Type 0 where
 
 -- "9: no solved form exists"
 pub record WithoutReading (bs : List ℕ) (k : ℕ) (cs : List ℕ) : Type 0 where
-  pub graph : Graph
-  pub is-accepted : outcome bs ≡ accepted graph
+  pub content : Content
+  pub is-accepted : outcome bs ≡ accepted content
   pub its-number : number NoReading ≡ k
-  pub unsolvable : Solvable graph → ⊥
-  pub its-cycle : hypernormalCycle graph cs ≡ true
+  pub unsolvable : Solvable (content .graph) → ⊥
+  pub its-cycle : hypernormalCycle (content .graph) cs ≡ true
 
 pub record OtherCycle (bs cs : List ℕ) : Type 0 where
-  pub graph : Graph
-  pub is-accepted : outcome bs ≡ accepted graph
-  pub is-cycle : cycle graph cs ≡ true
-  pub is-other : hypernormal graph cs ≡ false
+  pub content : Content
+  pub is-accepted : outcome bs ≡ accepted content
+  pub is-cycle : cycle (content .graph) cs ≡ true
+  pub is-other : hypernormal (content .graph) cs ≡ false
 
 pub record Printed (bs : List ℕ) (ls : List (List ℕ)) : Type 0 where
-  pub graph : Graph
-  pub is-accepted : outcome bs ≡ accepted graph
+  pub content : Content
+  pub is-accepted : outcome bs ≡ accepted content
   pub readings : List (List ℕ)
-  pub listing : Listing graph readings
-  pub its-lines : ls ≡ printed graph readings
+  pub listing : Listing (content .graph) readings
+  pub its-lines : ls ≡ printed (content .graph) readings
 
 pub record Drawn (bs : List ℕ) (k : ℕ) (text : List ℕ) : Type 0 where
-  pub graph : Graph
-  pub is-accepted : outcome bs ≡ accepted graph
+  pub content : Content
+  pub is-accepted : outcome bs ≡ accepted content
   pub readings : List (List ℕ)
-  pub listing : Listing graph readings
+  pub listing : Listing (content .graph) readings
   pub from-one : 1 ≤ k
   pub to-last : k ≤ length readings
-  pub its-text : text ≡ drawing graph (entry readings (k - 1))
+  pub its-text : text ≡ drawing (content .graph) (entry readings (k - 1))
 
 pub record ConfiguredTo (bs q : List ℕ) : Type 0 where
-  pub graph : Graph
-  pub is-accepted : outcome bs ≡ accepted graph
-  pub handed-out : HandedOut graph q
-  pub is-configuration : Configuration graph q
+  pub content : Content
+  pub is-accepted : outcome bs ≡ accepted content
+  pub handed-out : HandedOut (content .graph) q
+  pub is-configuration : Configuration (content .graph) q
 
 -- The claim holds of the sheet with these bytes.
 abbrev pub Holds : List ℕ → Claim → Type 0

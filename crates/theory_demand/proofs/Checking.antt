@@ -12,7 +12,7 @@ use Rattle.graph.specs.Graph.{Graph}
 use Rattle.graph.specs.Placing.{placing}
 use Rattle.graph.specs.Table.{fragments}
 use Rattle.graph.specs.declared.Fragment.{Fragment}
-use Rattle.format.specs.Sheet.{Outcome, refused, accepted, outcome, tidy}
+use Rattle.format.specs.Sheet.{Content, Outcome, refused, accepted, outcome, tidy}
 use Rattle.format.specs.Refusal.{number}
 use Rattle.theory_format.proofs.Refusals.{refused-number, not-9}
 use Rattle.check_placing.specs.Answered.{Answered}
@@ -35,7 +35,7 @@ use Rattle.theory_demand.specs.Demand.{asNoReading}
 
 pub check-cycle-determined : (o : Outcome) (cycle : List ℕ) (r r′ : CycleChecked) → CycleOf o cycle r → CycleOf o cycle r′ → r ≡ r′
 check-cycle-determined (refused why) cycle r r′ e e′ = e ∙ sym e′
-check-cycle-determined (accepted g) cycle r r′ e e′ = e ∙ sym e′
+check-cycle-determined (accepted s) cycle r r′ e e′ = e ∙ sym e′
 
 -- two tests of one fact agree
 same-test : {P : Type 0} (a b : Bool) → (a ≡ true) ↔ P → (b ≡ true) ↔ P → a ≡ b
@@ -64,7 +64,7 @@ placing-determined (PlacingCall.answered a f x) (PlacingCall.answered b f′ y) 
 
 pub check-placing-determined : (o : Outcome) (bytes : List ℕ) (r r′ : PlacingChecked) → PlacingOf o bytes r → PlacingOf o bytes r′ → r ≡ r′
 check-placing-determined (refused why) bytes r r′ e e′ = e ∙ sym e′
-check-placing-determined (accepted g) bytes r r′ x y = placing-determined x y
+check-placing-determined (accepted s) bytes r r′ x y = placing-determined x y
 
 -- "Bytes that aren't a placing of the sheet get three noes."
 
@@ -83,33 +83,33 @@ no-placing (PlacingCall.answered a f x) h e =
 -- "Checking, tidying and the fragment table never give 9."
 
 -- 1 to 6, 8 and 12 are the sheet's, and after them comes only 10
-never : (bs : List ℕ) (small : Graph → Type 0) (o : Outcome) (k : ℕ) → outcome bs ≡ o → Numbered (λ g. First 10 (small g) NoRefusal) o k → k ≡ asNoReading → ⊥
+never : (bs : List ℕ) (small : Content → Type 0) (o : Outcome) (k : ℕ) → outcome bs ≡ o → Numbered (λ s. First 10 (small s) NoRefusal) o k → k ≡ asNoReading → ⊥
 never bs small (refused why) k is e n = not-9 (number why) (refused-number bs why is) (sym e ∙ n)
-never bs small (accepted g) k is x n = ⊎-elim (λ (y : small g × (k ≡ 10)). omega (arith, n, y .1)) (λ (y : (small g → ⊥) × (k ≡ 0)). omega (arith, n, y .1)) x
+never bs small (accepted s) k is x n = ⊎-elim (λ (y : small s × (k ≡ 10)). omega (arith, n, y .1)) (λ (y : (small s → ⊥) × (k ≡ 0)). omega (arith, n, y .1)) x
 
 cycle-never : (bs cycle : List ℕ) (o : Outcome) (r : CycleChecked) → outcome bs ≡ o → CycleOf o cycle r → cycleNumber r ≡ asNoReading → ⊥
 cycle-never bs cycle (refused why) r is e n = not-9 (number why) (refused-number bs why is) (sym (ap cycleNumber e) ∙ n)
-cycle-never bs cycle (accepted g) r is e n = omega (arith, n, ap cycleNumber e)
+cycle-never bs cycle (accepted s) r is e n = omega (arith, n, ap cycleNumber e)
 
 placing-number : (o : Outcome) (bytes : List ℕ) (r : PlacingChecked) → PlacingOf o bytes r → PlacingNumbered bytes o (placingNumber r)
 placing-number (refused why) bytes r e = ap placingNumber e
-placing-number (accepted g) bytes r x = placing-numbered x
+placing-number (accepted s) bytes r x = placing-numbered s x
 
 pub check-cycle-never-9 : (bs cycle : List ℕ) (r : CycleChecked) → CycleOf (outcome bs) cycle r → cycleNumber r ≡ asNoReading → ⊥
 check-cycle-never-9 bs cycle r = cycle-never bs cycle (outcome bs) r refl
 
 pub check-placing-never-9 : (bs bytes : List ℕ) (r : PlacingChecked) → PlacingOf (outcome bs) bytes r → placingNumber r ≡ asNoReading → ⊥
 check-placing-never-9 bs bytes r x =
-    never bs (λ g. length bytes < g .nodes) (outcome bs) (placingNumber r) refl (placing-number (outcome bs) bytes r x)
+    never bs (λ s. length bytes < s .graph .nodes) (outcome bs) (placingNumber r) refl (placing-number (outcome bs) bytes r x)
 
 pub tidy-never-9 : (bs : List ℕ) (r : Tidied) (old new : List ℕ) → Tidies (outcome bs) r old new → tidiedNumber r ≡ asNoReading → ⊥
 tidy-never-9 bs r old new x =
-    never bs (λ g. length old < length (tidy g)) (outcome bs) (tidiedNumber r) refl (tidy-numbered (outcome bs) r old new x)
+    never bs (λ s. length old < length (tidy (s .written))) (outcome bs) (tidiedNumber r) refl (tidy-numbered (outcome bs) r old new x)
 
 pub table-never-9 : (bs : List ℕ) (r : Table) (old new : List ℕ) → Tabled (outcome bs) r old new → tableNumber r ≡ asNoReading → ⊥
 table-never-9 bs r old new x =
-    never bs (λ g. length old < size g) (outcome bs) (tableNumber r) refl (table-numbered (outcome bs) x)
+    never bs (λ s. length old < size (s .graph)) (outcome bs) (tableNumber r) refl (table-numbered (outcome bs) x)
 
 pub records-never-9 : (bs : List ℕ) (r : Table) (old new : List Fragment) → Recorded (outcome bs) r old new → tableNumber r ≡ asNoReading → ⊥
 records-never-9 bs r old new x =
-    never bs (λ g. length old < length (fragments g)) (outcome bs) (tableNumber r) refl (records-numbered (outcome bs) x)
+    never bs (λ s. length old < length (fragments (s .graph))) (outcome bs) (tableNumber r) refl (records-numbered (outcome bs) x)

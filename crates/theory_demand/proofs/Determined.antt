@@ -10,7 +10,7 @@ use Rattle.graph.specs.Graph.{Graph}
 use Rattle.graph.specs.Order.{Listing, entry, countAnswer}
 use Rattle.graph.specs.Rule1.{Rule1, HandedOut}
 use Rattle.format.specs.Drawing.{drawing}
-use Rattle.format.specs.Sheet.{Outcome, refused, accepted}
+use Rattle.format.specs.Sheet.{Content, Outcome, refused, accepted}
 use Rattle.theory_forest.specs.Shape.{Shaped}
 use Rattle.theory_list.proofs.Readings.{listing-unique}
 use Rattle.theory_rule1.proofs.Ending.{rule1-function}
@@ -114,6 +114,6 @@ first-fixed m condition later f k k′ (inl x) (inr y) = absurd (y .0 (x .0))
 first-fixed m condition later f k k′ (inr x) (inl y) = absurd (x .0 (y .0))
 first-fixed m condition later f k k′ (inr x) (inr y) = f k k′ (x .1) (y .1)
 
-pub numbered-fixed : (own : Graph → ℕ → Type 0) → ((g : Graph) → Fixed (own g)) → (o : Outcome) → Fixed (Numbered own o)
+pub numbered-fixed : (own : Content → ℕ → Type 0) → ((s : Content) → Fixed (own s)) → (o : Outcome) → Fixed (Numbered own o)
 numbered-fixed own f (refused why) k k′ e e′ = e ∙ sym e′
-numbered-fixed own f (accepted g) k k′ x y = f g k k′ x y
+numbered-fixed own f (accepted s) k k′ x y = f s k k′ x y

@@ -63,9 +63,9 @@ module _ (g : Graph) (s : Shaped g) (ps : List (List ℕ)) (l : Listing g ps) wh
         rw (take-at (entry qs m) (drop (g .nodes) old) (g .nodes) whole, e, le-leb (2 * g .nodes) (length old)) (one-more k m there),
       )
 
-  pub chain-hands : (cs : List Call) (m : ℕ) → m ≤ reach ps → Chain (accepted g) m cs → handedOut (g .nodes) cs ≡ next ps (lentEnough (g .nodes) cs) m
+  pub chain-hands : (written : Graph) (cs : List Call) (m : ℕ) → m ≤ reach ps → Chain (accepted (record { written = written; graph = g })) m cs → handedOut (g .nodes) cs ≡ next ps (lentEnough (g .nodes) cs) m
   unfolding handedOut lentEnough
-  chain-hands [] m h c = let z : min 0 (reach ps - m) ≡ 0 = omega arith in rw z
-  chain-hands (c ∷ cs) m h x =
+  chain-hands written [] m h c = let z : min 0 (reach ps - m) ≡ 0 = omega arith in rw z
+  chain-hands written (c ∷ cs) m h x =
       let o = one-call (x .0) h (lentEnough (g .nodes) cs) in
-      rw (chain-hands cs (c .place) (o .0) (x .1)) (o .1)
+      rw (chain-hands written cs (c .place) (o .0) (x .1)) (o .1)

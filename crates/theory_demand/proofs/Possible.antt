@@ -15,7 +15,7 @@ use borrow.Author.Tests.{eqb-true, leb-true, leb-false}
 use Rattle.base_finite.specs.Below.{all}
 use Rattle.base_finite.proofs.Laws.{by-bool, and-both}
 use Rattle.graph.specs.Graph.{Graph}
-use Rattle.format.specs.Sheet.{Outcome, accepted, outcome}
+use Rattle.format.specs.Sheet.{Content, Outcome, accepted, outcome}
 use Rattle.graph.specs.Placing.{Unsolvable}
 use Rattle.graph.specs.Order.{entry}
 use Rattle.graph.specs.Cycle.{pairs, node, kind, next, joined, sameEdge, cycle}
@@ -136,15 +136,15 @@ buffers [] = []
 buffers (c ∷ cs) = c .lent ∷ buffers cs
 
 -- every list of lent buffers has its list of reading calls
-pub chain-possible : (g : Graph) → Shaped g → (bufs : List (List ℕ)) (m : ℕ) → (cs : List Call) × Chain (accepted g) m cs × (buffers cs ≡ bufs)
-chain-possible g s [] m = ([], tt, refl)
-chain-possible g s (b ∷ bufs) m =
-    let r = reading-possible g s m b in
+pub chain-possible : (x : Content) → Shaped (x .graph) → (bufs : List (List ℕ)) (m : ℕ) → (cs : List Call) × Chain (accepted x) m cs × (buffers cs ≡ bufs)
+chain-possible x s [] m = ([], tt, refl)
+chain-possible x s (b ∷ bufs) m =
+    let r = reading-possible (x .graph) s m b in
     let c : Call = record { lent = b; answer = r .0; place = r .1; after = r .2 } in
-    let x = chain-possible g s bufs (r .1) in
-    (c ∷ x .0, (r .3, x .1), ap (λ (z : List (List ℕ)). b ∷ z) (x .2))
+    let rest = chain-possible x s bufs (r .1) in
+    (c ∷ rest .0, (r .3, rest .1), ap (λ (z : List (List ℕ)). b ∷ z) (rest .2))
 
-pub sheet-chain : (bs : List ℕ) (g : Graph) → outcome bs ≡ accepted g → (bufs : List (List ℕ)) → (cs : List Call) × Chain (outcome bs) 0 cs × (buffers cs ≡ bufs)
-sheet-chain bs g e bufs =
-    let x = chain-possible g (well-formed-shaped (accepted-well-formed bs g e)) bufs 0 in
-    (x .0, subst (λ (o : Outcome). Chain o 0 (x .0)) (sym e) (x .1), x .2)
+pub sheet-chain : (bs : List ℕ) (x : Content) → outcome bs ≡ accepted x → (bufs : List (List ℕ)) → (cs : List Call) × Chain (outcome bs) 0 cs × (buffers cs ≡ bufs)
+sheet-chain bs x e bufs =
+    let c = chain-possible x (well-formed-shaped (accepted-well-formed bs x e)) bufs 0 in
+    (c .0, subst (λ (o : Outcome). Chain o 0 (c .0)) (sym e) (c .1), c .2)

@@ -10,7 +10,7 @@ use native.Mathlib.Decide.{decLe}
 use lib.ListN.{length, length-append}
 use Rattle.graph.specs.Graph.{Graph}
 use Rattle.graph.specs.Order.{Listing, entry}
-use Rattle.format.specs.Sheet.{Outcome, refused, accepted, outcome}
+use Rattle.format.specs.Sheet.{Content, Outcome, refused, accepted, outcome}
 use Rattle.theory_format.proofs.Spelling.{accepted-well-formed}
 use Rattle.theory_forest.specs.Shape.{Shaped}
 use Rattle.theory_forest.proofs.Shape.{well-formed-shaped}
@@ -91,10 +91,10 @@ module _ (g : Graph) (s : Shaped g) where
       (λ u. let w = cycle-writes g s old f u in (_, _, _, StretchCall.none f u (w .2))))
       (λ f. (_, _, _, StretchCall.small (omega arith)))
 
-outcome-filled : (o : Outcome) → ((g : Graph) → o ≡ accepted g → Shaped g) → (m : ℕ) (old : List ℕ) → (r : Placed) × (m′ : ℕ) × (new : List ℕ) × StretchOf o m old r m′ new
+outcome-filled : (o : Outcome) → ((x : Content) → o ≡ accepted x → Shaped (x .graph)) → (m : ℕ) (old : List ℕ) → (r : Placed) × (m′ : ℕ) × (new : List ℕ) × StretchOf o m old r m′ new
 outcome-filled (refused why) shaped m old = (Refused why, m, old, (refl, refl, refl))
-outcome-filled (accepted g) shaped m old = stretch-possible g (shaped g refl) m old
+outcome-filled (accepted x) shaped m old = stretch-possible (x .graph) (shaped x refl) m old
 
 -- `Place::fill` can always answer
 pub fill-possible : (bs : List ℕ) (m : ℕ) (old : List ℕ) → (r : Placed) × (m′ : ℕ) × (new : List ℕ) × StretchOf (outcome bs) m old r m′ new
-fill-possible bs = outcome-filled (outcome bs) (λ g e. well-formed-shaped (accepted-well-formed bs g e))
+fill-possible bs = outcome-filled (outcome bs) (λ x e. well-formed-shaped (accepted-well-formed bs x e))

@@ -10,8 +10,7 @@ use lib.ListN.{length, length-take}
 use lib.Seq.{take-all}
 use borrow.Author.Tests.{lt-ltb, le-ltb, ltb-true, ltb-false}
 use Rattle.base_finite.proofs.Laws.{by-bool}
-use Rattle.graph.specs.Graph.{Graph}
-use Rattle.format.specs.Sheet.{refused, accepted, allCommands, longest, outcome}
+use Rattle.format.specs.Sheet.{Content, refused, accepted, allCommands, longest, outcome}
 use Rattle.format.specs.Text.{judged}
 use Rattle.format.specs.declared.Refusal.the-variants.{TooLong}
 use Rattle.theory_format.proofs.Whole.{passed}
@@ -24,10 +23,10 @@ pub short-enough : (bs : List ℕ) → length bs ≤ longest → outcome bs ≡ 
 unfolding outcome
 short-enough bs h = rw (le-ltb longest (length bs) h)
 
-pub accepted-short : (bs : List ℕ) (g : Graph) → outcome bs ≡ accepted g → (length bs ≤ longest) × (allCommands bs ≡ accepted g)
+pub accepted-short : (bs : List ℕ) (s : Content) → outcome bs ≡ accepted s → (length bs ≤ longest) × (allCommands bs ≡ accepted s)
 unfolding outcome
-accepted-short bs g e =
-    let p = passed (ltb longest (length bs)) TooLong (allCommands bs) g e in
+accepted-short bs s e =
+    let p = passed (ltb longest (length bs)) TooLong (allCommands bs) s e in
     (ltb-false longest (length bs) (p .0), p .1)
 
 -- "the program reads 2,049 bytes to tell"

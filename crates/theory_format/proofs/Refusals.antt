@@ -21,7 +21,7 @@ OfBytes k = ((1 ≤ k) × (k ≤ 6)) ⊎ ((k ≡ 8) ⊎ (k ≡ 12))
 -- if it is a refusal, its number is one of these
 abbrev Few : Outcome → Type 0
 Few (refused why) = OfBytes (number why)
-Few (accepted g) = Unit {0}
+Few (accepted s) = Unit {0}
 
 either : (b : Bool) (x y : Outcome) → Few x → Few y → Few (cond b x y)
 either true x y p q = p

@@ -14,7 +14,7 @@ use lib.ListN.{length}
 use borrow.Author.Tests.{eqb-true, leb-true, leb-false, le-leb, lt-leb, ne-eqb}
 use Rattle.base_finite.proofs.Laws.{by-bool, or-none, and-both}
 use Rattle.graph.specs.Graph.{Edge, Graph, among, different, entered, single, TreeEdge, one, WellFormed, Agree}
-use Rattle.format.specs.Sheet.{Outcome, refused, accepted, whole, takesTwo, beyond, commands, allCommands, longest, outcome, EdgeCommand, tree-edge, dominance-edge, spelt, written, sheet, spells, WellFormedSheet}
+use Rattle.format.specs.Sheet.{Content, Outcome, refused, accepted, content, whole, takesTwo, beyond, commands, allCommands, longest, outcome, EdgeCommand, tree-edge, dominance-edge, spelt, written, sheet, spells, WellFormedSheet}
 use Rattle.format.specs.declared.Refusal.the-variants.{Missing, Command, Range, Tree, TooMany}
 use Rattle.theory_edges.proofs.Ends.{dominance-within}
 use Rattle.theory_edges.proofs.Edges.{among-first, among-rest, among-none, among-again, within-more, single-cons}
@@ -68,15 +68,15 @@ not-beyond n x y e =
     let b = or-none (leb n x) (leb n y) e in
     (leb-false n x (b .0), leb-false n y (b .1))
 
-within-passed : (n x y : ℕ) (o : Outcome) (g : Graph) → cond (beyond n x y) (refused Range) o ≡ accepted g → (x < n) × (y < n) × (o ≡ accepted g)
-within-passed n x y o g e =
-    let a = passed (beyond n x y) Range o g e in
+within-passed : (n x y : ℕ) (o : Outcome) (s : Content) → cond (beyond n x y) (refused Range) o ≡ accepted s → (x < n) × (y < n) × (o ≡ accepted s)
+within-passed n x y o s e =
+    let a = passed (beyond n x y) Range o s e in
     let w = not-beyond n x y (a .0) in
     (w .0, w .1, a .1)
 
-tree-passed : (x y : ℕ) (t : List Edge) (o : Outcome) (g : Graph) → cond (eqb x y || entered t y) (refused Tree) o ≡ accepted g → (entered t y ≡ false) × (o ≡ accepted g)
-tree-passed x y t o g e =
-    let b = passed (eqb x y || entered t y) Tree o g e in
+tree-passed : (x y : ℕ) (t : List Edge) (o : Outcome) (s : Content) → cond (eqb x y || entered t y) (refused Tree) o ≡ accepted s → (entered t y ≡ false) × (o ≡ accepted s)
+tree-passed x y t o s e =
+    let b = passed (eqb x y || entered t y) Tree o s e in
     (or-none (eqb x y) (entered t y) (b .0) .1, b .1)
 
 -- the graph that is read: a dominance edge that has stood before is left out
@@ -89,58 +89,58 @@ once n t d [] = record { nodes = n; tree = t; dominance = d }
 once n t d (tree-edge p c ∷ cs) = once n ((p, c) ∷ t) d cs
 once n t d (dominance-edge l r ∷ cs) = once n t (added d l r) cs
 
--- the bytes after the first command spell commands that give g on top of t and d, and g is well-formed
-abbrev Spelt : ℕ → List Edge → List Edge → List ℕ → Graph → Type 0
-Spelt n t d bs g = (cs : List EdgeCommand) × (bs ≡ spelt cs) × (g ≡ once n t d cs) × WellFormed g
+-- the bytes after the first command spell commands that give s on top of t and d, and what is written is well-formed
+abbrev Spelt : ℕ → List Edge → List Edge → List ℕ → Content → Type 0
+Spelt n t d bs s = (cs : List EdgeCommand) × (bs ≡ spelt cs) × (s ≡ content (once n t d cs)) × WellFormed (once n t d cs)
 
-spelt-end : (n : ℕ) (t d : List Edge) (b : ℕ) (g : Graph) → Taken n t d → b ≡ 0 → whole (record { nodes = n; tree = t; dominance = d }) ≡ accepted g → Spelt n t d (b ∷ []) g
+spelt-end : (n : ℕ) (t d : List Edge) (b : ℕ) (s : Content) → Taken n t d → b ≡ 0 → whole (record { nodes = n; tree = t; dominance = d }) ≡ accepted s → Spelt n t d (b ∷ []) s
 unfolding spelt once
-spelt-end n t d b g k q e =
+spelt-end n t d b s k q e =
     let h : Graph = record { nodes = n; tree = t; dominance = d } in
-    let same : g ≡ h = whole-same h g e in
-    ([], rw q, same, subst WellFormed (sym same) (well-formed-of-whole h k (rw same at e)))
+    let same : s ≡ content h = whole-same h s e in
+    ([], rw q, same, well-formed-of-whole h k (rw same at e))
 
-spelt-tree : (n : ℕ) (t d : List Edge) (b x y : ℕ) (rest : List ℕ) (g : Graph) → b ≡ 2 → Spelt n ((x, y) ∷ t) d rest g → Spelt n t d (b ∷ x ∷ y ∷ rest) g
+spelt-tree : (n : ℕ) (t d : List Edge) (b x y : ℕ) (rest : List ℕ) (s : Content) → b ≡ 2 → Spelt n ((x, y) ∷ t) d rest s → Spelt n t d (b ∷ x ∷ y ∷ rest) s
 unfolding spelt once
-spelt-tree n t d b x y rest g q r = (tree-edge x y ∷ r .0, rw (q, r .1), r .2, r .3)
+spelt-tree n t d b x y rest s q r = (tree-edge x y ∷ r .0, rw (q, r .1), r .2, r .3)
 
-spelt-dominance : (n : ℕ) (t d : List Edge) (b x y : ℕ) (rest : List ℕ) (g : Graph) → b ≡ 3 → Spelt n t (added d x y) rest g → Spelt n t d (b ∷ x ∷ y ∷ rest) g
+spelt-dominance : (n : ℕ) (t d : List Edge) (b x y : ℕ) (rest : List ℕ) (s : Content) → b ≡ 3 → Spelt n t (added d x y) rest s → Spelt n t d (b ∷ x ∷ y ∷ rest) s
 unfolding spelt once
-spelt-dominance n t d b x y rest g q r = (dominance-edge x y ∷ r .0, rw (q, r .1), r .2, r .3)
+spelt-dominance n t d b x y rest s q r = (dominance-edge x y ∷ r .0, rw (q, r .1), r .2, r .3)
 
 -- a dominance edge that has stood before, or a new one
-spelt-added : (n : ℕ) (t d : List Edge) (x y : ℕ) (rest : List ℕ) (g : Graph) → Taken n t d → x < n → y < n
-    → (again more : Outcome) → cond (among d x y) again (cond (leb 255 (different d)) (refused TooMany) more) ≡ accepted g
-    → (again ≡ accepted g → Spelt n t d rest g) → (Taken n t ((x, y) ∷ d) → more ≡ accepted g → Spelt n t ((x, y) ∷ d) rest g) → Spelt n t (added d x y) rest g
-spelt-added n t d x y rest g k a b again more e stood fresh =
+spelt-added : (n : ℕ) (t d : List Edge) (x y : ℕ) (rest : List ℕ) (s : Content) → Taken n t d → x < n → y < n
+    → (again more : Outcome) → cond (among d x y) again (cond (leb 255 (different d)) (refused TooMany) more) ≡ accepted s
+    → (again ≡ accepted s → Spelt n t d rest s) → (Taken n t ((x, y) ∷ d) → more ≡ accepted s → Spelt n t ((x, y) ∷ d) rest s) → Spelt n t (added d x y) rest s
+spelt-added n t d x y rest s k a b again more e stood fresh =
     by-bool (among d x y)
     (λ (f : among d x y ≡ true). rw f (stood (rw f at e)))
     (λ (f : among d x y ≡ false).
-    let p = passed (leb 255 (different d)) TooMany more g (rw f at e) in
+    let p = passed (leb 255 (different d)) TooMany more s (rw f at e) in
     rw f (fresh (taken-dominance n t d x y k a b f (leb-false 255 (different d) (p .0))) (p .1)))
 
-commands-spelt : (n : ℕ) (t d : List Edge) (bs : List ℕ) (g : Graph) → Taken n t d → commands n t d bs ≡ accepted g → Spelt n t d bs g
+commands-spelt : (n : ℕ) (t d : List Edge) (bs : List ℕ) (s : Content) → Taken n t d → commands n t d bs ≡ accepted s → Spelt n t d bs s
 unfolding commands
-commands-spelt n t d [] g k e = absurd (not-refused Missing g e)
-commands-spelt n t d (b ∷ []) g k e =
+commands-spelt n t d [] s k e = absurd (not-refused Missing s e)
+commands-spelt n t d (b ∷ []) s k e =
     by-bool (eqb b 0)
-    (λ (z : eqb b 0 ≡ true). spelt-end n t d b g k (eqb-true b 0 z) (rw z at e))
-    (λ (z : eqb b 0 ≡ false). absurd (not-refused (cond (takesTwo b) Missing Command) g (rw z at e)))
-commands-spelt n t d (b ∷ x ∷ []) g k e = absurd (not-refused (cond (takesTwo b) Missing Command) g e)
-commands-spelt n t d (b ∷ x ∷ y ∷ rest) g k e =
+    (λ (z : eqb b 0 ≡ true). spelt-end n t d b s k (eqb-true b 0 z) (rw z at e))
+    (λ (z : eqb b 0 ≡ false). absurd (not-refused (cond (takesTwo b) Missing Command) s (rw z at e)))
+commands-spelt n t d (b ∷ x ∷ []) s k e = absurd (not-refused (cond (takesTwo b) Missing Command) s e)
+commands-spelt n t d (b ∷ x ∷ y ∷ rest) s k e =
     by-bool (eqb b 2)
     (λ (z : eqb b 2 ≡ true).
-    let i = within-passed n x y _ g (rw z at e) in
-    let p = tree-passed x y t _ g (i .2) in
-    spelt-tree n t d b x y rest g (eqb-true b 2 z) (commands-spelt n ((x, y) ∷ t) d rest g (taken-tree n t d x y k (i .0) (i .1) (p .0)) (p .1)))
+    let i = within-passed n x y _ s (rw z at e) in
+    let p = tree-passed x y t _ s (i .2) in
+    spelt-tree n t d b x y rest s (eqb-true b 2 z) (commands-spelt n ((x, y) ∷ t) d rest s (taken-tree n t d x y k (i .0) (i .1) (p .0)) (p .1)))
     (λ (z : eqb b 2 ≡ false).
     by-bool (eqb b 3)
     (λ (w : eqb b 3 ≡ true).
-    let i = within-passed n x y _ g (rw (z, w) at e) in
-    spelt-dominance n t d b x y rest g (eqb-true b 3 w)
-    (spelt-added n t d x y rest g k (i .0) (i .1) (commands n t d rest) (commands n t ((x, y) ∷ d) rest) (i .2)
-    (commands-spelt n t d rest g k) (commands-spelt n t ((x, y) ∷ d) rest g)))
-    (λ (w : eqb b 3 ≡ false). absurd (not-refused Command g (rw (z, w) at e))))
+    let i = within-passed n x y _ s (rw (z, w) at e) in
+    spelt-dominance n t d b x y rest s (eqb-true b 3 w)
+    (spelt-added n t d x y rest s k (i .0) (i .1) (commands n t d rest) (commands n t ((x, y) ∷ d) rest) (i .2)
+    (commands-spelt n t d rest s k) (commands-spelt n t ((x, y) ∷ d) rest s)))
+    (λ (w : eqb b 3 ≡ false). absurd (not-refused Command s (rw (z, w) at e))))
 
 -- it has the nodes and edges written
 
@@ -185,43 +185,66 @@ once-agrees n cs =
       same-dominance = once-dominance n [] [] [] cs (λ u v. refl);
     }
 
-first-command : (b n : ℕ) (rest : List ℕ) (g : Graph) → allCommands (b ∷ n ∷ rest) ≡ accepted g → (b ≡ 1) × (2 ≤ n) × (n ≤ 128) × (commands n [] [] rest ≡ accepted g)
+first-command : (b n : ℕ) (rest : List ℕ) (s : Content) → allCommands (b ∷ n ∷ rest) ≡ accepted s → (b ≡ 1) × (2 ≤ n) × (n ≤ 128) × (commands n [] [] rest ≡ accepted s)
 unfolding allCommands
-first-command b n rest g e =
+first-command b n rest s e =
     by-bool (eqb b 1)
     (λ (z : eqb b 1 ≡ true).
     by-bool (leb 2 n && leb n 128)
     (λ (w : (leb 2 n && leb n 128) ≡ true).
     let a = and-both (leb 2 n) (leb n 128) w in
     (eqb-true b 1 z, leb-true 2 n (a .0), leb-true n 128 (a .1), rw (z, w) at e))
-    (λ (w : (leb 2 n && leb n 128) ≡ false). absurd (not-refused Range g (rw (z, w) at e))))
-    (λ (z : eqb b 1 ≡ false). absurd (not-refused Command g (rw z at e)))
+    (λ (w : (leb 2 n && leb n 128) ≡ false). absurd (not-refused Range s (rw (z, w) at e))))
+    (λ (z : eqb b 1 ≡ false). absurd (not-refused Command s (rw z at e)))
 
-commands-accepted : (bs : List ℕ) (g : Graph) → allCommands bs ≡ accepted g → (cs : List EdgeCommand) × (bs ≡ sheet (g .nodes) cs) × (g ≡ once (g .nodes) [] [] cs) × WellFormed g
+commands-accepted : (bs : List ℕ) (s : Content) → allCommands bs ≡ accepted s
+    → (n : ℕ) × (cs : List EdgeCommand) × (bs ≡ sheet n cs) × (s ≡ content (once n [] [] cs)) × WellFormed (once n [] [] cs)
 unfolding allCommands sheet
-commands-accepted [] g e = absurd (not-refused Missing g e)
-commands-accepted (b ∷ []) g e = absurd (not-refused (cond (eqb b 1) Missing Command) g e)
-commands-accepted (b ∷ n ∷ rest) g e =
-    let f = first-command b n rest g e in
-    let r = commands-spelt n [] [] rest g (taken-none n (f .1) (f .2)) (f .3) in
+commands-accepted [] s e = absurd (not-refused Missing s e)
+commands-accepted (b ∷ []) s e = absurd (not-refused (cond (eqb b 1) Missing Command) s e)
+commands-accepted (b ∷ n ∷ rest) s e =
+    let f = first-command b n rest s e in
+    let r = commands-spelt n [] [] rest s (taken-none n (f .1) (f .2)) (f .3) in
     let cs : List EdgeCommand = r .0 in
-    let same : g .nodes ≡ n = ap (λ (h : Graph). h .nodes) (r .2) ∙ once-nodes n [] [] cs in
-    (cs, cc, r .2 ∙ ap (λ (m : ℕ). once m [] [] cs) (sym same), r .3)
+    let first : b ≡ 1 = f .0 in
+    let others : rest ≡ spelt cs = r .1 in
+    (n, cs, cc, r .2, r .3)
 
 once-well-formed : (n : ℕ) (cs : List EdgeCommand) → WellFormed (once n [] [] cs) → WellFormed (spells n cs)
 unfolding spells
 once-well-formed n cs w = well-formed-agree (once n [] [] cs) (written n [] [] cs) (once-agrees n cs) w (rw (← once-tree n [] [] [] cs) (w .one-parent))
 
-pub accepted-spells : (bs : List ℕ) (g : Graph) → outcome bs ≡ accepted g
-    → (cs : List EdgeCommand) × (bs ≡ sheet (g .nodes) cs) × Agree g (spells (g .nodes) cs) × WellFormed g × WellFormed (spells (g .nodes) cs) × (length bs ≤ longest)
-accepted-spells bs g e =
-    let s = accepted-short bs g e in
-    let r = commands-accepted bs g (s .1) in
-    let agrees : Agree g (spells (g .nodes) (r .0)) = subst (λ (h : Graph). Agree h (spells (g .nodes) (r .0))) (sym (r .2)) (once-agrees (g .nodes) (r .0)) in
-    (r .0, r .1, agrees, r .3, once-well-formed (g .nodes) (r .0) (subst WellFormed (r .2) (r .3)), s .0)
+-- What accepted bytes are: a sheet's, whose commands write what was read. It is well-formed, and so is what was read, each edge once.
+pub record Accepts (bs : List ℕ) (s : Content) : Type 0 where
+  pub commands : List EdgeCommand
+  pub bytes : bs ≡ sheet (s .written .nodes) commands
+  pub agrees : Agree (s .written) (spells (s .written .nodes) commands)
+  pub well-formed : WellFormed (s .written)
+  pub spelt-well-formed : WellFormed (spells (s .written .nodes) commands)
+  pub means : s ≡ content (s .written)
+  pub short : length bs ≤ longest
 
-pub accepted-well-formed : (bs : List ℕ) (g : Graph) → outcome bs ≡ accepted g → WellFormed g
-accepted-well-formed bs g e = accepted-spells bs g e .3
+pub accepted-spells : (bs : List ℕ) (s : Content) → outcome bs ≡ accepted s → Accepts bs s
+accepted-spells bs s e =
+    let a = accepted-short bs s e in
+    let r = commands-accepted bs s (a .1) in
+    let g : Graph = once (r .0) [] [] (r .1) in
+    let nodes : r .0 ≡ g .nodes = sym (once-nodes (r .0) [] [] (r .1)) in
+    subst (Accepts bs) (sym (r .3))
+    (record {
+      commands = r .1;
+      bytes = r .2 ∙ ap (λ (n : ℕ). sheet n (r .1)) nodes;
+      agrees = subst (λ (n : ℕ). Agree g (spells n (r .1))) nodes (once-agrees (r .0) (r .1));
+      well-formed = r .4;
+      spelt-well-formed = subst (λ (n : ℕ). WellFormed (spells n (r .1))) nodes (once-well-formed (r .0) (r .1) (r .4));
+      means = refl;
+      short = a .0;
+    })
+
+pub accepted-well-formed : (bs : List ℕ) (s : Content) → outcome bs ≡ accepted s → WellFormed (s .graph)
+accepted-well-formed bs s e =
+    let a = accepted-spells bs s e in
+    subst (λ (x : Content). WellFormed (x .graph)) (sym (a .means)) (a .well-formed)
 
 -- what held of the lists before the commands put edges on top of them
 
@@ -267,7 +290,7 @@ room n t d l r cs w f =
     let more : different ((l, r) ∷ d) ≤ different (once n t ((l, r) ∷ d) cs .dominance) = different-before n t ((l, r) ∷ d) cs in
     lt-leb 255 (different d) (omega (arith, (rw f at more), w .few-edges))
 
-spelt-accepted : (n : ℕ) (t d : List Edge) (cs : List EdgeCommand) → WellFormed (once n t d cs) → commands n t d (spelt cs) ≡ accepted (once n t d cs)
+spelt-accepted : (n : ℕ) (t d : List Edge) (cs : List EdgeCommand) → WellFormed (once n t d cs) → commands n t d (spelt cs) ≡ accepted (content (once n t d cs))
 unfolding commands spelt once
 spelt-accepted n t d [] w = whole-of-well-formed (record { nodes = n; tree = t; dominance = d }) w
 spelt-accepted n t d (tree-edge p c ∷ cs) w =
@@ -290,7 +313,7 @@ spelt-accepted n t d (dominance-edge l r ∷ cs) w =
     let v : WellFormed (once n t ((l, r) ∷ d) cs) = rw f at w in
     rw (inside, f, room n t d l r cs v f) (spelt-accepted n t ((l, r) ∷ d) cs v))
 
-pub spells-accepted : (n : ℕ) (cs : List EdgeCommand) → WellFormed (spells n cs) → length (sheet n cs) ≤ longest → (g : Graph) × (outcome (sheet n cs) ≡ accepted g) × Agree g (spells n cs)
+pub spells-accepted : (n : ℕ) (cs : List EdgeCommand) → WellFormed (spells n cs) → length (sheet n cs) ≤ longest → (g : Graph) × (outcome (sheet n cs) ≡ accepted (content g)) × Agree g (spells n cs)
 unfolding allCommands sheet spells
 spells-accepted n cs w short =
     let g : Graph = once n [] [] cs in
@@ -302,12 +325,12 @@ spells-accepted n cs w short =
     (g, short-enough (1 ∷ n ∷ spelt cs) short ∙ rw (some, few) (spelt-accepted n [] [] cs v), k)
 
 -- accepted exactly when well-formed
-pub accepted-exactly : (bs : List ℕ) → ((g : Graph) × (outcome bs ≡ accepted g)) ↔ WellFormedSheet bs
+pub accepted-exactly : (bs : List ℕ) → ((s : Content) × (outcome bs ≡ accepted s)) ↔ WellFormedSheet bs
 accepted-exactly bs = (
-  λ (a : (g : Graph) × (outcome bs ≡ accepted g)).
-      let s = accepted-spells bs (a .0) (a .1) in
-      (a .0 .nodes, s .0, s .1, s .4, s .5),
+  λ (a : (s : Content) × (outcome bs ≡ accepted s)).
+      let r = accepted-spells bs (a .0) (a .1) in
+      (a .0 .written .nodes, r .commands, r .bytes, r .spelt-well-formed, r .short),
   λ (v : WellFormedSheet bs).
       let r = spells-accepted (v .0) (v .1) (v .3) (subst (λ (l : List ℕ). length l ≤ longest) (v .2) (v .4)) in
-      (r .0, ap outcome (v .2) ∙ r .1),
+      (content (r .0), ap outcome (v .2) ∙ r .1),
 )

@@ -12,7 +12,7 @@ use Rattle.base_finite.specs.Below.{count, spread}
 use Rattle.base_finite.proofs.Laws.{by-bool, spread-ext, count-le, count-none, count-one-more, not-holding, test-ext}
 use Rattle.base_finite.proofs.Counting.{count-grows}
 use Rattle.graph.specs.Graph.{Edge, Graph, among, different, entered, single, root, parent, own, WellFormed, Agree}
-use Rattle.format.specs.Sheet.{accepted, longest, outcome, EdgeCommand, tree-edge, dominance-edge, spelt, written, sheet, spells, tidyTree, tidyDominance, tidy}
+use Rattle.format.specs.Sheet.{Content, accepted, content, longest, outcome, EdgeCommand, tree-edge, dominance-edge, spelt, written, sheet, spells, tidyTree, tidyDominance, tidy}
 use Rattle.theory_edges.specs.Edges.{Within, distinct, sum}
 use Rattle.theory_edges.proofs.Edges.{among-unentered, parent-among, parent-only, one-parent, sum-ext, different-same, different-short, distinct-different}
 use Rattle.theory_format.proofs.Whole.{accepted-same}
@@ -223,7 +223,7 @@ pub tidy-room : (g : Graph) → WellFormed g → length (tidy g) ≤ 1149
 tidy-room g w = omega (arith, tidy-length g w, few-parents g w, w .few-nodes, w .few-edges)
 
 -- "tidying changes no node and no edge"
-pub tidy-accepted : (g : Graph) → WellFormed g → (h : Graph) × (outcome (tidy g) ≡ accepted h) × Agree g h
+pub tidy-accepted : (g : Graph) → WellFormed g → (h : Graph) × (outcome (tidy g) ≡ accepted (content h)) × Agree g h
 tidy-accepted g w =
     let n : ℕ = g .nodes in
     let cs : List EdgeCommand = tidyCommands g in
@@ -233,13 +233,14 @@ tidy-accepted g w =
     (r .0, ap outcome (tidy-spells g) ∙ r .1, agree-trans g (tidied g) (r .0) (tidied-agrees g w) (agree-sym (r .0) (tidied g) (subst (Agree (r .0)) same (r .2))))
 
 -- 02, One: "tidying keeps the set of edges", of what the sheet and its tidy sheet write, however often
-pub tidy-keeps : (bs : List ℕ) (g : Graph) → outcome bs ≡ accepted g
-    → (cs : List EdgeCommand) × (ds : List EdgeCommand) × (bs ≡ sheet (g .nodes) cs) × (tidy g ≡ sheet (g .nodes) ds) × Agree (spells (g .nodes) cs) (spells (g .nodes) ds)
-tidy-keeps bs g e =
-    let s = accepted-spells bs g e in
-    let written-so : Graph = spells (g .nodes) (s .0) in
+pub tidy-keeps : (bs : List ℕ) (s : Content) → outcome bs ≡ accepted s
+    → (cs : List EdgeCommand) × (ds : List EdgeCommand) × (bs ≡ sheet (s .written .nodes) cs) × (tidy (s .written) ≡ sheet (s .written .nodes) ds) × Agree (spells (s .written .nodes) cs) (spells (s .written .nodes) ds)
+tidy-keeps bs s e =
+    let a = accepted-spells bs s e in
+    let g : Graph = s .written in
+    let written-so : Graph = spells (g .nodes) (a .commands) in
     let same : spells (g .nodes) (tidyCommands g) ≡ tidied g = spells-tidied g in
-    (s .0, tidyCommands g, s .1, tidy-spells g, subst (Agree written-so) (sym same) (agree-trans written-so g (tidied g) (agree-sym g written-so (s .2)) (tidied-agrees g (s .3))))
+    (a .commands, tidyCommands g, a .bytes, tidy-spells g, subst (Agree written-so) (sym same) (agree-trans written-so g (tidied g) (agree-sym g written-so (a .agrees)) (tidied-agrees g (a .well-formed))))
 
 -- 02, One: "The tidy sheet has each edge once"
 pub each-edge-once : (g : Graph)
@@ -287,27 +288,34 @@ tidy-spelt n cs w =
     let g : Graph = written n [] [] cs in
     omega (arith, tidy-length g w, tree-edges-few g w, different-short (g .dominance), written-length n [] [] cs, spelt-length cs)
 
-pub tidy-no-longer : (bs : List ℕ) (g : Graph) → outcome bs ≡ accepted g → length (tidy g) ≤ length bs
-tidy-no-longer bs g e =
-    let s = accepted-spells bs g e in
+pub tidy-no-longer : (bs : List ℕ) (s : Content) → outcome bs ≡ accepted s → length (tidy (s .written)) ≤ length bs
+tidy-no-longer bs s e =
+    let a = accepted-spells bs s e in
+    let g : Graph = s .written in
     let n : ℕ = g .nodes in
-    let cs : List EdgeCommand = s .0 in
-    let same : length (tidy g) ≡ length (tidy (spells n cs)) = ap length (tidy-same g (spells n cs) (s .2)) in
-    let bytes : length bs ≡ length (sheet n cs) = ap length (s .1) in
-    omega (arith, same, bytes, tidy-spelt n cs (s .4))
+    let cs : List EdgeCommand = a .commands in
+    let same : length (tidy g) ≡ length (tidy (spells n cs)) = ap length (tidy-same g (spells n cs) (a .agrees)) in
+    let bytes : length bs ≡ length (sheet n cs) = ap length (a .bytes) in
+    omega (arith, same, bytes, tidy-spelt n cs (a .spelt-well-formed))
 
-pub tidy-twice : (bs : List ℕ) (g h : Graph) → outcome bs ≡ accepted g → outcome (tidy g) ≡ accepted h → tidy h ≡ tidy g
-tidy-twice bs g h e f =
-    let r = tidy-accepted g (accepted-well-formed bs g e) in
-    let same : h ≡ r .0 = accepted-same h (r .0) (sym f ∙ r .1) in
-    ap tidy same ∙ sym (tidy-same g (r .0) (r .2))
+-- the tidy sheet of what a sheet writes, accepted
+tidy-again : (bs : List ℕ) (s : Content) → outcome bs ≡ accepted s → (h : Graph) × (outcome (tidy (s .written)) ≡ accepted (content h)) × Agree (s .written) h
+tidy-again bs s e = tidy-accepted (s .written) (accepted-spells bs s e .well-formed)
 
-pub one-tidy-form : (bs cs : List ℕ) (g h : Graph) → outcome bs ≡ accepted g → outcome cs ≡ accepted h → (tidy g ≡ tidy h) ↔ Agree g h
-one-tidy-form bs cs g h e f =
-    let r = tidy-accepted g (accepted-well-formed bs g e) in
-    let s = tidy-accepted h (accepted-well-formed cs h f) in (
-      λ q.
-          let same : r .0 ≡ s .0 = accepted-same (r .0) (s .0) (sym (r .1) ∙ ap outcome q ∙ s .1) in
-          agree-trans g (s .0) h (subst (Agree g) same (r .2)) (agree-sym h (s .0) (s .2)),
+pub tidy-twice : (bs : List ℕ) (s t : Content) → outcome bs ≡ accepted s → outcome (tidy (s .written)) ≡ accepted t → tidy (t .written) ≡ tidy (s .written)
+tidy-twice bs s t e f =
+    let r = tidy-again bs s e in
+    let same : t ≡ content (r .0) = accepted-same t (content (r .0)) (sym f ∙ r .1) in
+    ap (λ (x : Content). tidy (x .written)) same ∙ sym (tidy-same (s .written) (r .0) (r .2))
+
+pub one-tidy-form : (bs cs : List ℕ) (s t : Content) → outcome bs ≡ accepted s → outcome cs ≡ accepted t → (tidy (s .written) ≡ tidy (t .written)) ↔ Agree (s .written) (t .written)
+one-tidy-form bs cs s t e f =
+    let g : Graph = s .written in
+    let h : Graph = t .written in
+    let r = tidy-again bs s e in
+    let q = tidy-again cs t f in (
+      λ x.
+          let same : content (r .0) ≡ content (q .0) = accepted-same (content (r .0)) (content (q .0)) (sym (r .1) ∙ ap outcome x ∙ q .1) in
+          agree-trans g (q .0) h (subst (λ (y : Content). Agree g (y .written)) same (r .2)) (agree-sym h (q .0) (q .2)),
       tidy-same g h,
     )

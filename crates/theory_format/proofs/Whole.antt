@@ -10,7 +10,7 @@ use borrow.Author.Tests.{not-false}
 use Rattle.base_finite.specs.Below.{any}
 use Rattle.base_finite.proofs.Laws.{by-bool, and-both, any-none, any-false, not-holding}
 use Rattle.graph.specs.Graph.{Edge, Graph, among, different, entered, left, single, root, leaf, DominanceEdge, WellFormed, cyclic}
-use Rattle.format.specs.Sheet.{Outcome, refused, accepted, bare, astray, whole}
+use Rattle.format.specs.Sheet.{Content, Outcome, refused, accepted, content, bare, astray, whole}
 use Rattle.format.specs.declared.Refusal.{Refusal}
 use Rattle.format.specs.declared.Refusal.the-variants.{Tree, Bare, Ends}
 use Rattle.theory_edges.specs.Edges.{Within}
@@ -24,27 +24,27 @@ pub record Taken (n : ℕ) (t d : List Edge) : Type 0 where
   pub dominance-within : Within n d
   pub few-edges : different d ≤ 255
 
-pub not-refused : (x : Refusal) (g : Graph) → refused x ≡ accepted g → ⊥
-not-refused x g e = let z : _≡_ {A = ℕ} 0 1 = cc in omega arith
+pub not-refused : (x : Refusal) (s : Content) → refused x ≡ accepted s → ⊥
+not-refused x s e = let z : _≡_ {A = ℕ} 0 1 = cc in omega arith
 
-pub accepted-same : (g h : Graph) → accepted g ≡ accepted h → g ≡ h
-accepted-same g h e = cc
+pub accepted-same : (s t : Content) → accepted s ≡ accepted t → s ≡ t
+accepted-same s t e = cc
 
 -- a test that did not refuse failed
-pub passed : (b : Bool) (x : Refusal) (o : Outcome) (g : Graph) → cond b (refused x) o ≡ accepted g → (b ≡ false) × (o ≡ accepted g)
-passed true x o g e = absurd (not-refused x g e)
-passed false x o g e = (refl, e)
+pub passed : (b : Bool) (x : Refusal) (o : Outcome) (s : Content) → cond b (refused x) o ≡ accepted s → (b ≡ false) × (o ≡ accepted s)
+passed true x o s e = absurd (not-refused x s e)
+passed false x o s e = (refl, e)
 
-pub whole-passed : (g h : Graph) → whole g ≡ accepted h → (cyclic g ≡ false) × (bare g ≡ false) × (astray g ≡ false) × (g ≡ h)
+pub whole-passed : (g : Graph) (s : Content) → whole g ≡ accepted s → (cyclic g ≡ false) × (bare g ≡ false) × (astray g ≡ false) × (content g ≡ s)
 unfolding whole
-whole-passed g h e =
-    let a = passed (cyclic g) Tree (cond (bare g) (refused Bare) (cond (astray g) (refused Ends) (accepted g))) h e in
-    let b = passed (bare g) Bare (cond (astray g) (refused Ends) (accepted g)) h (a .1) in
-    let c = passed (astray g) Ends (accepted g) h (b .1) in
-    (a .0, b .0, c .0, accepted-same g h (c .1))
+whole-passed g s e =
+    let a = passed (cyclic g) Tree (cond (bare g) (refused Bare) (cond (astray g) (refused Ends) (accepted (content g)))) s e in
+    let b = passed (bare g) Bare (cond (astray g) (refused Ends) (accepted (content g))) s (a .1) in
+    let c = passed (astray g) Ends (accepted (content g)) s (b .1) in
+    (a .0, b .0, c .0, accepted-same (content g) s (c .1))
 
-pub whole-same : (g h : Graph) → whole g ≡ accepted h → h ≡ g
-whole-same g h e = sym (whole-passed g h e .3)
+pub whole-same : (g : Graph) (s : Content) → whole g ≡ accepted s → s ≡ content g
+whole-same g s e = sym (whole-passed g s e .3)
 
 on-tree-edge-of : (g : Graph) → bare g ≡ false → (v : ℕ) → v < g .nodes → (entered (g .tree) v || left (g .tree) v) ≡ true
 unfolding bare
@@ -71,9 +71,9 @@ not-astray g h =
     (λ l _. any-none n (λ r. among (g .dominance) l r && not (leaf g l && root g r))
     (λ r _. by-bool (among (g .dominance) l r) (λ d. let b = h l r d in rw (d, b .0, b .1)) (λ d. rw d)))
 
-pub well-formed-of-whole : (g : Graph) → Taken (g .nodes) (g .tree) (g .dominance) → whole g ≡ accepted g → WellFormed g
+pub well-formed-of-whole : (g : Graph) → Taken (g .nodes) (g .tree) (g .dominance) → whole g ≡ accepted (content g) → WellFormed g
 well-formed-of-whole g k e =
-    let p = whole-passed g g e in
+    let p = whole-passed g (content g) e in
     record {
       some-nodes = k .some-nodes;
       few-nodes = k .few-nodes;
@@ -85,7 +85,7 @@ well-formed-of-whole g k e =
       few-edges = k .few-edges;
     }
 
-pub whole-of-well-formed : (g : Graph) → WellFormed g → whole g ≡ accepted g
+pub whole-of-well-formed : (g : Graph) → WellFormed g → whole g ≡ accepted (content g)
 unfolding whole
 whole-of-well-formed g w =
     let a : cyclic g ≡ false = not-holding (cyclic g) (λ h. let r = cycle-of-cyclic g (w .tree-within) h in w .no-tree-cycle (r .0) (r .1)) in

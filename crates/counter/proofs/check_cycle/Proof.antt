@@ -2,7 +2,7 @@
 use mathlib.Core.Path.{refl, ap}
 use denote.Ref.{now}
 use Rattle.sheet_decode.proofs.Answers.{answered-refused}
-use Rattle.solve_start.proofs.Accepted.{sheet-of}
+use Rattle.solve_start.proofs.Accepted.{sheet-of, tables-of}
 use Rattle.counter.specs.declared.CycleChecked.the-variants.{Answer}
 use Rattle.solve_start.proofs.Starts.{parents-table, heads-long}
 use borrow.Author.Needs.{needs}
@@ -30,7 +30,7 @@ slice-aggregate-check-3 c = search needs
 check-requires : tie.Need-check-requires
 check-requires c κs =
     let r = c .before .before .before .before .before .before .before .before .before .read in
-    let s = sheet-of (now (c .before .before .before .before .before .before .before .before .before .before .before .before .args .sheet)) (r .result) (r .ensures) (c .before .before .before .enum-told .given .1) .tables in
+    let s = tables-of (sheet-of (now (c .before .before .before .before .before .before .before .before .before .before .before .before .args .sheet)) (r .result) (r .ensures) (c .before .before .before .enum-told .given .1)) in
     (parents-table s .few, parents-table s .long, heads-long s .0, heads-long s .1)
 
 returns : tie.Need-returns
@@ -42,7 +42,7 @@ returns-2 : tie.Need-returns-2
 returns-2 c =
     let r = c .before .before .before .before .before .before .before .before .before .before .read in
     let x = sheet-of (now (c .before .before .before .before .before .before .before .before .before .before .before .before .before .args .sheet)) (r .result) (r .ensures) (c .before .before .before .before .enum-told .given .1) in
-    rw (x .is) (ap Answer (c .check .ensures (x .tables .graph) (x .tables .edges) (x .tables .tables)), refl)
+    rw (x .is) (ap Answer (c .check .ensures (x .content .graph) (r .result .graph .edges) (x .tables)), refl)
 
 pub check-cycle-spec : {M : Type 1} → statement M
 check-cycle-spec =

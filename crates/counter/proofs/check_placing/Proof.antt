@@ -2,7 +2,7 @@
 use mathlib.Core.Path.{refl}
 use denote.Ref.{now}
 use Rattle.sheet_decode.proofs.Answers.{answered-refused}
-use Rattle.solve_start.proofs.Accepted.{sheet-of}
+use Rattle.solve_start.proofs.Accepted.{sheet-of, tables-of}
 use borrow.Author.Needs.{needs}
 use Rattle.counter.proofs.Numbers.{placing-numbered}
 use Rattle.counter.proofs.check_placing.Statement.{statement}
@@ -29,7 +29,7 @@ slice-aggregate-checked-placing-3 c = search needs
 checked-placing-requires : tie.Need-checked-placing-requires
 checked-placing-requires c κs =
     let r = c .before .before .before .before .before .before .before .before .before .read in
-    sheet-of (now (c .before .before .before .before .before .before .before .before .before .before .before .before .args .sheet)) (r .result) (r .ensures) (c .before .before .before .enum-told .given .1) .tables
+    tables-of (sheet-of (now (c .before .before .before .before .before .before .before .before .before .before .before .before .args .sheet)) (r .result) (r .ensures) (c .before .before .before .enum-told .given .1))
 
 returns : tie.Need-returns
 returns c =
@@ -40,8 +40,8 @@ returns-2 : tie.Need-returns-2
 returns-2 c =
     let r = c .before .before .before .before .before .before .before .before .before .before .read in
     let x = sheet-of (now (c .before .before .before .before .before .before .before .before .before .before .before .before .before .args .sheet)) (r .result) (r .ensures) (c .before .before .before .before .enum-told .given .1) in
-    let called = c .checked-placing .ensures (x .tables) in
-    rw (x .is) (called, placing-numbered called)
+    let called = c .checked-placing .ensures (tables-of x) in
+    rw (x .is) (called, placing-numbered (x .content) called)
 
 pub check-placing-spec : {M : Type 1} → statement M
 check-placing-spec =

@@ -2,7 +2,7 @@
 use mathlib.Core.Path.{refl}
 use denote.Ref.{now}
 use Rattle.sheet_decode.proofs.Answers.{answered-refused}
-use Rattle.solve_start.proofs.Accepted.{sheet-of}
+use Rattle.solve_start.proofs.Accepted.{sheet-of, tables-of}
 use borrow.Author.Needs.{needs}
 use Rattle.counter.proofs.Numbers.{configuration-numbered}
 use Rattle.counter.proofs.configuration.Statement.{statement}
@@ -29,7 +29,7 @@ slice-aggregate-configuration-of-3 c = search needs
 configuration-of-requires : tie.Need-configuration-of-requires
 configuration-of-requires c κs =
     let r = c .before .before .before .before .before .before .before .before .before .before .read in
-    sheet-of (now (c .before .before .before .before .before .before .before .before .before .before .before .before .before .args .sheet)) (r .result) (r .ensures) (c .before .before .before .before .enum-told .given .1) .tables
+    tables-of (sheet-of (now (c .before .before .before .before .before .before .before .before .before .before .before .before .before .args .sheet)) (r .result) (r .ensures) (c .before .before .before .before .enum-told .given .1))
 
 returns : tie.Need-returns
 returns c =
@@ -43,8 +43,8 @@ returns-2 : tie.Need-returns-2
 returns-2 c =
     let r = c .before .before .before .before .before .before .before .before .before .before .before .before .before .read in
     let x = sheet-of (now (c .before .before .before .before .before .before .before .before .before .before .before .before .before .before .before .before .args .sheet)) (r .result) (r .ensures) (c .before .before .before .before .before .before .before .enum-told .given .1) in
-    let called = c .before .before .configuration-of .ensures (x .tables) in
-    rw (x .is) (called, configuration-numbered called)
+    let called = c .before .before .configuration-of .ensures (tables-of x) in
+    rw (x .is) (called, configuration-numbered (x .content) called)
 
 pub configuration-spec : {M : Type 1} → statement M
 configuration-spec =

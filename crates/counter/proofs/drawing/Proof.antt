@@ -2,7 +2,7 @@
 use mathlib.Core.Path.{refl}
 use denote.Ref.{now}
 use Rattle.sheet_decode.proofs.Answers.{answered-refused}
-use Rattle.solve_start.proofs.Accepted.{sheet-of}
+use Rattle.solve_start.proofs.Accepted.{sheet-of, tables-of}
 use borrow.Author.Needs.{needs}
 use Rattle.theory_forest.proofs.Shape.{well-formed-shaped}
 use Rattle.counter.proofs.Numbers.{drawing-numbered}
@@ -30,7 +30,7 @@ slice-aggregate-drawing-of-3 c = search needs
 drawing-of-requires : tie.Need-drawing-of-requires
 drawing-of-requires c κs =
     let r = c .before .before .before .before .before .before .before .before .before .before .read in
-    sheet-of (now (c .before .before .before .before .before .before .before .before .before .before .before .before .before .args .sheet)) (r .result) (r .ensures) (c .before .before .before .before .enum-told .given .1) .tables
+    tables-of (sheet-of (now (c .before .before .before .before .before .before .before .before .before .before .before .before .before .args .sheet)) (r .result) (r .ensures) (c .before .before .before .before .enum-told .given .1))
 
 returns : tie.Need-returns
 returns c =
@@ -44,8 +44,8 @@ returns-2 : tie.Need-returns-2
 returns-2 c =
     let r = c .before .before .before .before .before .before .before .before .before .before .before .before .before .read in
     let x = sheet-of (now (c .before .before .before .before .before .before .before .before .before .before .before .before .before .before .before .before .args .sheet)) (r .result) (r .ensures) (c .before .before .before .before .before .before .before .enum-told .given .1) in
-    let called = c .before .before .drawing-of .ensures (x .tables) in
-    rw (x .is) (called, drawing-numbered (well-formed-shaped (x .tables .tables .well-formed)) called)
+    let called = c .before .before .drawing-of .ensures (tables-of x) in
+    rw (x .is) (called, drawing-numbered (x .content) (well-formed-shaped (x .tables .well-formed)) called)
 
 pub drawing-spec : {M : Type 1} → statement M
 drawing-spec =

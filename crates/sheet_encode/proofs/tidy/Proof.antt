@@ -1,6 +1,6 @@
 use mathlib.Core.Path.{refl}
 use denote.Ref.{now}
-use Rattle.sheet_decode.proofs.Answers.{answered-refused, answered-accepted}
+use Rattle.sheet_decode.proofs.Answers.{answered-refused, answered-written}
 use borrow.Author.Needs.{needs}
 use Rattle.sheet_encode.proofs.tidy.Statement.{statement}
 use Rattle.sheet_encode.proofs.tidy.Tie as tie
@@ -26,8 +26,8 @@ slice-aggregate-write-3 c = search needs
 write-requires : tie.Need-write-requires
 write-requires c κs =
     let r = c .before .before .before .before .before .before .before .before .before .before .read in
-    let a = answered-accepted (now (c .before .before .before .before .before .before .before .before .before .before .before .before .before .args .sheet)) (r .result) (r .ensures) (c .before .before .before .before .enum-told .given .1) in
-    record { graph = a .0; well-formed = a .2 .well-formed; nodes = a .2 .nodes; holds = a .2 .holds }
+    let a = answered-written (now (c .before .before .before .before .before .before .before .before .before .before .before .before .before .args .sheet)) (r .result) (r .ensures) (c .before .before .before .before .enum-told .given .1) in
+    record { graph = a .0 .written; well-formed = a .2 .well-formed; nodes = a .2 .nodes; holds = a .2 .holds }
 
 returns : tie.Need-returns
 returns c =
@@ -40,8 +40,8 @@ same-length c = search needs
 returns-2 : tie.Need-returns-2
 returns-2 c =
     let r = c .before .before .before .before .before .before .before .before .before .before .before .before .before .read in
-    let a = answered-accepted (now (c .before .before .before .before .before .before .before .before .before .before .before .before .before .before .before .before .args .sheet)) (r .result) (r .ensures) (c .before .before .before .before .before .before .before .enum-told .given .1) in
-    rw (a .1) (c .before .before .write .ensures (record { graph = a .0; well-formed = a .2 .well-formed; nodes = a .2 .nodes; holds = a .2 .holds }))
+    let a = answered-written (now (c .before .before .before .before .before .before .before .before .before .before .before .before .before .before .before .before .args .sheet)) (r .result) (r .ensures) (c .before .before .before .before .before .before .before .enum-told .given .1) in
+    rw (a .1) (c .before .before .write .ensures (record { graph = a .0 .written; well-formed = a .2 .well-formed; nodes = a .2 .nodes; holds = a .2 .holds }))
 
 pub tidy-spec : {M : Type 1} → statement M
 tidy-spec =

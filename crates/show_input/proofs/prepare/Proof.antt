@@ -35,16 +35,16 @@ same-length : tie.Need-same-length
 same-length c = search needs
 
 returns : tie.Need-returns
-returns c = λ s. no-reading (c .before .before .before .before .before .before .before .before .begin .ensures .1 s .unsolved (not-true _ (c .before .before .before .before .if1 .taken))) (c .before .before .refuse .ensures)
+returns c = λ s t. no-reading (c .before .before .before .before .before .before .before .before .begin .ensures .1 (record { graph = s .graph; edges = _; tables = t }) .unsolved (not-true _ (c .before .before .before .before .if1 .taken))) (c .before .before .refuse .ensures)
 
 returns-2 : tie.Need-returns-2
 returns-2 c =
-    λ s.
+    λ s t.
     ready
     (record {
       listed = refl;
       long = omega (arith, c .before .before .before .before .before .begin .kept, length-replicate {0} {A = ℕ} 128 0);
-      walkable = c .before .before .before .before .before .begin .ensures .1 s .solved (not-false _ (c .before .if1 .left));
+      walkable = c .before .before .before .before .before .begin .ensures .1 (record { graph = s .graph; edges = _; tables = t }) .solved (not-false _ (c .before .if1 .left));
     })
     refl
 

@@ -5,7 +5,7 @@ use denote.Ref.{now}
 use lib.ListN.{take}
 use lib.Seq.{length-take-le}
 use Rattle.sheet_decode.proofs.Answers.{answered-refused}
-use Rattle.solve_start.proofs.Accepted.{sheet-of}
+use Rattle.solve_start.proofs.Accepted.{sheet-of, tables-of}
 use Rattle.show_input.specs.Input.{refusal}
 use Rattle.show_input.proofs.Comes.{of-input}
 use borrow.Author.Needs.{needs}
@@ -30,7 +30,7 @@ enum-told c = search needs
 prepare-requires : tie.Need-prepare-requires
 prepare-requires c κs =
     let a = c .before .before .before .before .before .before .before .before .args in
-    (sheet-of (take (a .got) (now (a .input))) (c .before .before .before .before .read .result) (c .before .before .before .before .read .ensures) (c .before .enum-told .given .1) .tables, c .before .before .before .before .before .before .before .before .pre .2)
+    (tables-of (sheet-of (take (a .got) (now (a .input))) (c .before .before .before .before .read .result) (c .before .before .before .before .read .ensures) (c .before .enum-told .given .1)), c .before .before .before .before .before .before .before .before .pre .2)
 
 same-length : tie.Need-same-length
 same-length c = search needs
@@ -49,7 +49,7 @@ returns-2 : tie.Need-returns-2
 returns-2 c =
     let a = c .before .before .before .before .before .before .before .before .before .before .before .args in
     let x = sheet-of (take (a .got) (now (a .input))) (c .before .before .before .before .before .before .before .read .result) (c .before .before .before .before .before .before .before .read .ensures) (c .before .before .before .before .enum-told .given .1) in
-    of-input (take (a .got) (now (a .input))) (x .is) (c .before .before .prepare .ensures (x .tables))
+    of-input (take (a .got) (now (a .input))) (x .is) (c .before .before .prepare .ensures (x .content) (x .tables))
 
 pub read-input-spec : {M : Type 1} → statement M
 read-input-spec =

@@ -3,7 +3,7 @@ use mathlib.Core.Path.{refl}
 use native.Mathlib.Omega.{arith}
 use denote.Ref.{now}
 use Rattle.sheet_decode.proofs.Answers.{answered-refused}
-use Rattle.solve_start.proofs.Accepted.{sheet-of}
+use Rattle.solve_start.proofs.Accepted.{sheet-of, tables-of}
 use borrow.Author.Needs.{needs}
 use Rattle.theory_forest.proofs.Shape.{well-formed-shaped}
 use Rattle.counter.proofs.Numbers.{stretch-numbered}
@@ -31,7 +31,7 @@ slice-aggregate-readings-of-3 c = search needs
 readings-of-requires : tie.Need-readings-of-requires
 readings-of-requires c κs =
     let r = c .before .before .before .before .before .before .before .before .before .before .read in
-    (sheet-of (now (c .before .before .before .before .before .before .before .before .before .before .before .before .before .args .sheet)) (r .result) (r .ensures) (c .before .before .before .before .enum-told .given .1) .tables, λ h. (omega arith, omega (arith, h)))
+    (tables-of (sheet-of (now (c .before .before .before .before .before .before .before .before .before .before .before .before .before .args .sheet)) (r .result) (r .ensures) (c .before .before .before .before .enum-told .given .1)), λ h. (omega arith, omega (arith, h)))
 
 moved-requires : tie.Need-moved-requires
 moved-requires c κs = search needs
@@ -48,8 +48,8 @@ returns-2 : tie.Need-returns-2
 returns-2 c =
     let r = c .before .before .before .before .before .before .before .before .before .before .before .before .before .before .read in
     let x = sheet-of (now (c .before .before .before .before .before .before .before .before .before .before .before .before .before .before .before .before .before .args .sheet)) (r .result) (r .ensures) (c .before .before .before .before .before .before .before .before .enum-told .given .1) in
-    let called = c .before .before .before .readings-of .ensures (x .tables) in
-    rw (c .moved .ensures .0, c .moved .ensures .1, x .is) (called, stretch-numbered (well-formed-shaped (x .tables .tables .well-formed)) called)
+    let called = c .before .before .before .readings-of .ensures (tables-of x) in
+    rw (c .moved .ensures .0, c .moved .ensures .1, x .is) (called, stretch-numbered (x .content) (well-formed-shaped (x .tables .well-formed)) called)
 
 pub fill-spec : {M : Type 1} → statement M
 fill-spec =
