@@ -1,16 +1,16 @@
 -- Runs of stores one behind the other, and lists spread over the numbers below a bound: how long they are, and which
 -- numbers may be passed over.
 use Prim.Native.Nat.{ℕ, zero, suc, _+_, _*_, _≤_, _<_}
-use mathlib.Core.Path.{_≡_, sym}
+use mathlib.Core.Path.{_≡_, refl, sym, ap, _∙_}
 use mathlib.Core.List.{List, [], _∷_, _++_, append-nil}
-use mathlib.Core.Bool.{Bool, cond}
+use mathlib.Core.Bool.{Bool, true, false, cond}
 use mathlib.Core.Logic.{⊎-elim}
 use native.Mathlib.Nat.{eq-or-lt-of-le, add-zero, mul-one, mul-add, mul-zero}
 use native.Mathlib.Omega.{arith}
 use lib.ListN.{length, set, length-append}
 use lib.Seq.{sets}
-use Rattle.base_finite.specs.Below.{count, spread}
-use Rattle.base_finite.proofs.Laws.{by-bool}
+use Rattle.base_finite.specs.Below.{count, spread, select}
+use Rattle.base_finite.proofs.Laws.{by-bool, not-holding, spread-ext}
 
 module _ {A : Type 0} where
   pub sets-append : (a : List A) (l : List A) (i : ℕ) (b : List A) → sets (sets l i a) (i + length a) b ≡ sets l i (a ++ b)
@@ -53,3 +53,21 @@ spread-gap f m (suc n) h none =
     (λ (l : m < suc n).
     rw (spread-gap f m n (omega arith) (λ k a b. none k a (omega arith)), none n (omega arith) (omega arith)) (append-nil (spread m f)))
     (eq-or-lt-of-le h)
+
+-- the numbers that have p
+
+pub select-is : (n : ℕ) (p : ℕ → Bool) → select n p ≡ spread n (λ k. cond (p k) (k ∷ []) [])
+unfolding select
+select-is n p = refl
+
+pub select-length : (n : ℕ) (p : ℕ → Bool) → length (select n p) ≡ count n p
+select-length n p = ap length (select-is n p) ∙ omega (arith, length-spread 1 n p (λ k. k ∷ []) (λ k. refl))
+
+pub select-ext : (n : ℕ) (p q : ℕ → Bool) → ((k : ℕ) → k < n → p k ≡ q k) → select n p ≡ select n q
+unfolding select
+select-ext n p q same = spread-ext n (λ k. cond (p k) (k ∷ []) []) (λ k. cond (q k) (k ∷ []) []) (λ k h. rw (same k h))
+
+pub select-cut : (m n : ℕ) (p : ℕ → Bool) → n ≤ m → ((k : ℕ) → p k ≡ true → k < n) → select m p ≡ select n p
+unfolding select
+select-cut m n p h few =
+    spread-gap (λ k. cond (p k) (k ∷ []) []) n m h (λ k a b. let gone : p k ≡ false = not-holding (p k) (λ e. omega (arith, a, few k e)) in rw gone)

@@ -20,7 +20,7 @@ use Rattle.graph.specs.Placing.{at}
 use Rattle.format.specs.Refusal.{number}
 use Rattle.format.specs.Text.{decimal, line, readings-word, more-than-words, refused-word, countLine, readingLine, refusedLine}
 use Rattle.format.specs.declared.Refusal.{Refusal}
-use Rattle.format.specs.declared.Refusal.the-variants.{Missing, Command, Range, Tree, Bare, Ends, TooMany, NoReading, SmallBuffer, NoSuchReading, TooLong}
+use Rattle.format.specs.declared.Refusal.the-variants.{Missing, Command, Range, Tree, Ends, TooMany, NoReading, SmallBuffer, NoSuchReading, TooLong, Overgrown}
 use Rattle.graph.specs.declared.Count.{Count}
 use Rattle.graph.specs.declared.Count.the-variants.{Exactly, More}
 use Rattle.base_text.specs.Lines.{pair, hungAt, hungIn, lineIn, hexBytes, hexLine}
@@ -39,13 +39,13 @@ refusal-number Missing = omega arith
 refusal-number Command = omega arith
 refusal-number Range = omega arith
 refusal-number Tree = omega arith
-refusal-number Bare = omega arith
 refusal-number Ends = omega arith
 refusal-number TooMany = omega arith
 refusal-number NoReading = omega arith
 refusal-number SmallBuffer = omega arith
 refusal-number NoSuchReading = omega arith
 refusal-number TooLong = omega arith
+refusal-number Overgrown = omega arith
 
 pub refused-is : (why : Refusal) (k : ℕ) → k ≡ number why → refusedLine why ≡ line (refused-word ++ decimal k)
 unfolding refusedLine

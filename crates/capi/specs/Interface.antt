@@ -11,13 +11,14 @@ use Rattle.sheet_fragments.specs.Table.{Tabled}
 use Rattle.sheet_fragments.specs.declared.Table.{Table}
 use Rattle.solve_answer.specs.Calls.{countNumber, placedNumber, drawnNumber, placingNumber}
 use Rattle.counter.specs.Calls.{CountOf, ReadingOf, StretchOf, ConfigurationOf, DrawingOf}
-use Rattle.counter.specs.Checks.{CycleOf, PlacingOf, cycleNumber, tidiedNumber, tableNumber}
+use Rattle.counter.specs.Checks.{NodesOf, CycleOf, PlacingOf, measuredNumber, cycleNumber, tidiedNumber, tableNumber}
 use Rattle.solve_answer.specs.declared.Counted.{Counted}
 use Rattle.solve_answer.specs.declared.Placed.{Placed}
 use Rattle.solve_answer.specs.declared.Drawn.{Drawn}
+use Rattle.counter.specs.declared.Measured.{Measured}
 use Rattle.counter.specs.declared.CycleChecked.{CycleChecked}
 use Rattle.solve_answer.specs.declared.PlacingChecked.{PlacingChecked}
-use Rattle.capi_put.specs.Values.{readingsOf, pairsOf, drawnOf, tidiedOf, recordsOf, yesOf, answersOf}
+use Rattle.capi_put.specs.Values.{readingsOf, pairsOf, drawnOf, nodesOf, tidiedOf, recordsOf, yesOf, answersOf}
 
 -- the functions: what was lent before and after, r the number returned
 
@@ -50,6 +51,12 @@ pub record DrawingTold (sheet : Outcome) (r : ℕ) (wanted : ℕ) (out out′ : 
   pub call : DrawingOf sheet wanted out answer out′
   pub number : r ≡ drawnNumber answer
   pub value : written′ ≡ drawnOf answer written
+
+pub record NodesTold (sheet : Outcome) (r : ℕ) (nodes nodes′ : ℕ) : Type 0 where
+  pub answer : Measured
+  pub call : NodesOf sheet answer
+  pub number : r ≡ measuredNumber answer
+  pub value : nodes′ ≡ nodesOf answer nodes
 
 pub record TidyTold (sheet : Outcome) (r : ℕ) (out out′ : List ℕ) (written written′ : ℕ) : Type 0 where
   pub answer : Tidied

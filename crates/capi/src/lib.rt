@@ -4,13 +4,14 @@ use capi_put::put_count;
 use capi_put::put_cycle;
 use capi_put::put_drawn;
 use capi_put::put_next;
+use capi_put::put_nodes;
 use capi_put::put_placed;
 use capi_put::put_placing;
 use capi_put::put_table;
 use capi_put::put_tidied;
 use counter::Place;
 ghost use Rattle.format.specs.Sheet.{outcome};
-ghost use Rattle.capi.specs.Interface.{CountTold, ReadingTold, ReadingsTold, ConfigurationTold, DrawingTold, TidyTold, FragmentsTold, CycleTold, PlacingTold};
+ghost use Rattle.capi.specs.Interface.{CountTold, ReadingTold, ReadingsTold, ConfigurationTold, DrawingTold, NodesTold, TidyTold, FragmentsTold, CycleTold, PlacingTold};
 
 #[no_mangle]
 pub extern "C" fn bixtogan_count(sheet: &[u8], readings: &mut u64) -> u8
@@ -81,6 +82,14 @@ pub extern "C" fn bixtogan_drawing(
 {
     let answer = counter::drawing(sheet, number as usize, out);
     put_drawn(answer, written)
+}
+
+#[no_mangle]
+pub extern "C" fn bixtogan_nodes(sheet: &[u8], nodes: &mut u64) -> u8
+    ensures { λ r. ⌜ NodesTold (outcome (now (sheet .entry))) r (now (nodes .entry)) (now (nodes .exit)) ⌝ }
+{
+    let answer = counter::nodes(sheet);
+    put_nodes(answer, nodes)
 }
 
 #[no_mangle]

@@ -15,6 +15,8 @@ use Rattle.solve_answer.specs.declared.Placed.{Placed}
 use Rattle.solve_answer.specs.declared.Placed.the-variants.{Done, NoReading, Refused}
 use Rattle.solve_answer.specs.declared.Drawn.{Drawn}
 use Rattle.solve_answer.specs.declared.Drawn.the-variants.{Length, Refused as DrawnRefused}
+use Rattle.counter.specs.declared.Measured.{Measured}
+use Rattle.counter.specs.declared.Measured.the-variants.{Nodes, Refused as MeasuredRefused}
 use Rattle.counter.specs.declared.CycleChecked.{CycleChecked}
 use Rattle.counter.specs.declared.CycleChecked.the-variants.{Answer, Refused as CycleRefused}
 use Rattle.solve_answer.specs.declared.PlacingChecked.{PlacingChecked}
@@ -41,6 +43,10 @@ pairsOf (Refused why) old = old
 abbrev pub drawnOf : Drawn → ℕ → ℕ
 drawnOf (Length k) old = k
 drawnOf (DrawnRefused why) old = old
+
+abbrev pub nodesOf : Measured → ℕ → ℕ
+nodesOf (Nodes n) old = n
+nodesOf (MeasuredRefused why) old = old
 
 abbrev pub tidiedOf : Tidied → ℕ → ℕ
 tidiedOf (TidyLength k) old = k

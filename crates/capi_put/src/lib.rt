@@ -3,6 +3,7 @@ use check_placing::Answers;
 use counter::Counted;
 use counter::CycleChecked;
 use counter::Drawn;
+use counter::Measured;
 use counter::Next;
 use counter::Placed;
 use counter::PlacingChecked;
@@ -15,8 +16,8 @@ ghost use mathlib.Core.Path.{_≡_};
 ghost use mathlib.Core.Bool.{cond};
 ghost use Prim.Native.Nat.{_≤_};
 ghost use Rattle.solve_answer.specs.Calls.{countNumber, placedNumber, drawnNumber, placingNumber};
-ghost use Rattle.counter.specs.Checks.{cycleNumber, tidiedNumber, tableNumber};
-ghost use Rattle.capi_put.specs.Values.{countValue, bits, readingsOf, pairsOf, drawnOf, tidiedOf, recordsOf, yesOf, answersOf};
+ghost use Rattle.counter.specs.Checks.{measuredNumber, cycleNumber, tidiedNumber, tableNumber};
+ghost use Rattle.capi_put.specs.Values.{countValue, bits, readingsOf, pairsOf, drawnOf, nodesOf, tidiedOf, recordsOf, yesOf, answersOf};
 
 // What stands for more than 65,535 readings.
 const MORE: u64 = 65536;
@@ -99,6 +100,19 @@ pub fn put_drawn(answer: Drawn, written: &mut u64) -> u8
             0
         }
         Drawn::Refused(why) => number(why),
+    }
+}
+
+pub fn put_nodes(answer: Measured, nodes: &mut u64) -> u8
+    ensures { λ r. ⌜ r ≡ measuredNumber answer ⌝ }
+    ensures { λ _. ⌜ now (nodes .exit) ≡ nodesOf answer (now (nodes .entry)) ⌝ }
+{
+    match answer {
+        Measured::Nodes(n) => {
+            *nodes = n as u64;
+            0
+        }
+        Measured::Refused(why) => number(why),
     }
 }
 

@@ -8,7 +8,6 @@ use lib.Dec.{ltb}
 use lib.ListN.{length}
 use borrow.Author.Tests.{ltb-true, ltb-false}
 use Rattle.base_finite.proofs.Laws.{by-bool}
-use Rattle.graph.specs.Graph.{Graph}
 use Rattle.graph.specs.Order.{Listing}
 use Rattle.graph.specs.Table.{fragments}
 use Rattle.graph.specs.declared.Fragment.{Fragment}

@@ -1,5 +1,5 @@
--- What the two checks answer, which are lent nothing to write into; and the numbers of those answers that solve_answer: Calls
--- does not have.
+-- What the calls answer that are lent nothing to write into: the number of nodes and the two checks; and the numbers of those answers
+-- that solve_answer: Calls does not have.
 use Prim.Native.Nat.{ℕ}
 use mathlib.Core.Path.{_≡_}
 use mathlib.Core.List.{List}
@@ -10,6 +10,8 @@ use Rattle.sheet_encode.specs.declared.Tidied.{Tidied}
 use Rattle.sheet_encode.specs.declared.Tidied.the-variants.{Length, Refused as TidiedRefused}
 use Rattle.sheet_fragments.specs.declared.Table.{Table}
 use Rattle.sheet_fragments.specs.declared.Table.the-variants.{Filled, Refused as TableRefused}
+use Rattle.counter.specs.declared.Measured.{Measured}
+use Rattle.counter.specs.declared.Measured.the-variants.{Nodes, Refused as MeasuredRefused}
 use Rattle.counter.specs.declared.CycleChecked.{CycleChecked}
 use Rattle.counter.specs.declared.CycleChecked.the-variants.{Answer, Refused as CycleRefused}
 use Rattle.solve_answer.specs.Calls.{PlacingCall}
@@ -17,6 +19,10 @@ use Rattle.solve_answer.specs.declared.PlacingChecked.{PlacingChecked}
 use Rattle.solve_answer.specs.declared.PlacingChecked.the-variants.{Refused}
 
 -- the number of an answer's refusal, and 0 where it is none
+abbrev pub measuredNumber : Measured → ℕ
+measuredNumber (Nodes n) = 0
+measuredNumber (MeasuredRefused why) = number why
+
 abbrev pub cycleNumber : CycleChecked → ℕ
 cycleNumber (Answer b) = 0
 cycleNumber (CycleRefused why) = number why
@@ -28,6 +34,11 @@ tidiedNumber (TidiedRefused why) = number why
 abbrev pub tableNumber : Table → ℕ
 tableNumber (Filled k) = 0
 tableNumber (TableRefused why) = number why
+
+-- 02, Two: "placings, cycles, drawings and buffers go by the grown node number", which this call tells
+abbrev pub NodesOf : Outcome → Measured → Type 0
+NodesOf (refused why) r = r ≡ MeasuredRefused why
+NodesOf (accepted s) r = r ≡ Nodes (s .graph .nodes)
 
 -- "The check of a cycle says yes exactly when the bytes spell a simple hypernormal cycle of the sheet"; "no least length for
 -- a cycle to be checked"

@@ -61,9 +61,9 @@ TableNumbered lent = Numbered (λ s. First 10 (length lent < size (s .graph)) No
 abbrev pub RecordsNumbered : List Fragment → Outcome → ℕ → Type 0
 RecordsNumbered lent = Numbered (λ s. First 10 (length lent < length (fragments (s .graph))) NoRefusal)
 
--- "no least length for a cycle to be checked"
-abbrev pub CycleNumbered : Outcome → ℕ → Type 0
-CycleNumbered = Numbered (λ s. NoRefusal)
+-- the number of nodes and the check of a cycle are refused as the sheet is: "no least length for a cycle to be checked"
+abbrev pub SheetNumbered : Outcome → ℕ → Type 0
+SheetNumbered = Numbered (λ s. NoRefusal)
 
 -- "n for a placing to be checked"
 abbrev pub PlacingNumbered : List ℕ → Outcome → ℕ → Type 0

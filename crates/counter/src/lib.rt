@@ -26,8 +26,8 @@ ghost use Rattle.sheet_fragments.specs.Table.{Tabled};
 ghost use Rattle.sheet_fragments.specs.Records.{Recorded};
 ghost use Rattle.counter.specs.Calls.{CountOf, ReadingOf, StretchOf, ConfigurationOf, DrawingOf};
 ghost use Rattle.solve_answer.specs.Calls.{countNumber, placedNumber, drawnNumber, placingNumber};
-ghost use Rattle.counter.specs.Checks.{CycleOf, PlacingOf, cycleNumber, tidiedNumber, tableNumber};
-ghost use Rattle.counter.specs.Numbers.{CountNumbered, ReadingNumbered, ConfigurationNumbered, DrawingNumbered, TidyNumbered, TableNumbered, RecordsNumbered, CycleNumbered, PlacingNumbered};
+ghost use Rattle.counter.specs.Checks.{NodesOf, CycleOf, PlacingOf, measuredNumber, cycleNumber, tidiedNumber, tableNumber};
+ghost use Rattle.counter.specs.Numbers.{CountNumbered, ReadingNumbered, ConfigurationNumbered, DrawingNumbered, TidyNumbered, TableNumbered, RecordsNumbered, SheetNumbered, PlacingNumbered};
 
 // The listing's place: the number of the last reading handed out, 0 at the start.
 pub struct Place {
@@ -38,6 +38,12 @@ pub struct Place {
 pub struct Next {
     pub answer: Placed,
     pub place: Place,
+}
+
+// How many nodes a sheet's graph has.
+pub enum Measured {
+    Nodes(usize),
+    Refused(Refusal),
 }
 
 // The answer to the check of a cycle.
@@ -171,6 +177,20 @@ pub fn drawing(sheet: &[u8], number: usize, out: &mut [u8]) -> Drawn
     }
 }
 
+// How many nodes the sheet's graph has, added leaves among them: the n of placings and buffers.
+pub fn nodes(sheet: &[u8]) -> Measured
+    ensures { λ r. ⌜ NodesOf (outcome (now (sheet .entry))) r ⌝ }
+    ensures { λ r. ⌜ SheetNumbered (outcome (now (sheet .entry))) (measuredNumber r) ⌝ }
+{
+    let answer = read(sheet);
+    let verdict = answer.verdict;
+    let graph = answer.graph;
+    match verdict {
+        Verdict::Refused(why) => Measured::Refused(why),
+        Verdict::Accepted => Measured::Nodes(graph.n),
+    }
+}
+
 // The tidy sheet, from the first lent byte on.
 pub fn tidy(sheet: &[u8], out: &mut [u8]) -> Tidied
     ensures { λ r. ⌜ Tidies (outcome (now (sheet .entry))) r (now (out .entry)) (now (out .exit)) ⌝ }
@@ -204,7 +224,7 @@ pub fn fragments(sheet: &[u8], table: &mut [Fragment]) -> Table
 // Whether the bytes spell a simple hypernormal cycle of the sheet.
 pub fn check_cycle(sheet: &[u8], cycle: &[u8]) -> CycleChecked
     ensures { λ r. ⌜ CycleOf (outcome (now (sheet .entry))) (now (cycle .entry)) r ⌝ }
-    ensures { λ r. ⌜ CycleNumbered (outcome (now (sheet .entry))) (cycleNumber r) ⌝ }
+    ensures { λ r. ⌜ SheetNumbered (outcome (now (sheet .entry))) (cycleNumber r) ⌝ }
 {
     let answer = read(sheet);
     let verdict = answer.verdict;

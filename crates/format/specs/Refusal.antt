@@ -1,19 +1,18 @@
--- The numbers of the refusals (document 01, "Who can cause which refusal"; document 02, One: "Refusal 7 then no longer occurs").
+-- The numbers of the refusals (document 01, "Who can cause which refusal"; document 02, One: "Refusal 7 then no longer
+-- occurs", and Two: "refusal 5 no longer occurs").
 use Prim.Native.Nat.{ℕ}
 use Rattle.format.specs.declared.Refusal.{Refusal}
-use Rattle.format.specs.declared.Refusal.the-variants.{Missing, Command, Range, Tree, Bare, Ends, TooMany, NoReading, SmallBuffer, NoSuchReading, TooLong}
+use Rattle.format.specs.declared.Refusal.the-variants.{Missing, Command, Range, Tree, Ends, TooMany, NoReading, SmallBuffer, NoSuchReading, TooLong, Overgrown}
 
 abbrev pub number : Refusal → ℕ
 -- a needed byte is missing
 number Missing = 1
 -- the command byte is unknown or out of place, or a byte follows the end
 number Command = 2
--- n is outside 2 to 128, or an operand is n or more
+-- n is outside 1 to 128, or an operand is n or more
 number Range = 3
 -- a tree edge has p equal to c, or c already has a parent, or tree edges form a cycle
 number Tree = 4
--- a node has no tree edge
-number Bare = 5
 -- a dominance edge doesn't go from a leaf to a root
 number Ends = 6
 -- the dominance edge would be the 256th different one
@@ -26,3 +25,5 @@ number SmallBuffer = 10
 number NoSuchReading = 11
 -- the sheet has more than 2,048 bytes
 number TooLong = 12
+-- the grown number of nodes exceeds 128
+number Overgrown = 13

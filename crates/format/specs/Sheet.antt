@@ -1,5 +1,5 @@
 -- The sheet: how its bytes spell a graph, which refusal is the first to hold, and the tidy sheet (document 01, "The
--- sheet" and "Who can cause which refusal"; document 02, One).
+-- sheet" and "Who can cause which refusal"; document 02, One and Two).
 use Prim.Native.Nat.{ℕ, _≤_}
 use mathlib.Core.Path.{_≡_}
 use mathlib.Core.List.{List, [], _∷_, _++_}
@@ -7,35 +7,36 @@ use mathlib.Core.Bool.{Bool, cond, not, _&&_, _||_}
 use lib.Dec.{eqb, leb, ltb}
 use lib.ListN.{length}
 use Rattle.base_finite.specs.Below.{any, spread}
-use Rattle.graph.specs.Graph.{Edge, Graph, among, different, entered, left, root, leaf, cyclic, WellFormed}
+use Rattle.graph.specs.Graph.{Edge, Graph, among, different, entered, root, leaf, cyclic, grown, WellWritten}
 use Rattle.format.specs.declared.Refusal.{Refusal}
-use Rattle.format.specs.declared.Refusal.the-variants.{Missing, Command, Range, Tree, Bare, Ends, TooMany, TooLong}
+use Rattle.format.specs.declared.Refusal.the-variants.{Missing, Command, Range, Tree, Ends, TooMany, TooLong, Overgrown}
 
--- What a sheet says: the nodes and edges that it writes, and the graph that they mean. Tidying goes by the one, and readings by
--- the other.
+-- What a sheet says: the nodes and edges that it writes, and the graph that they mean. 02, Two: tidying goes by the one, "Readings
+-- and the no-reading verdict are those of the grown graph".
 pub record Content : Type 0 where
   pub written : Graph
   pub graph : Graph
 
 abbrev pub content : Graph → Content
-content g = record { written = g; graph = g }
+content g = record { written = g; graph = grown g }
 
 -- What the bytes of a sheet come to.
 pub data Outcome : Type 0 where
   refused : Refusal → Outcome
   accepted : Content → Outcome
 
--- 5: "a node has no tree edge"
-unfoldable pub bare : Graph → Bool
-bare g = any (g .nodes) (λ v. not (entered (g .tree) v || left (g .tree) v))
+-- 02, Two: "13 when the grown number exceeds 128"
+unfoldable pub overgrown : Graph → Bool
+overgrown g = ltb 128 (grown g .nodes)
 
 -- 6: "a dominance edge doesn't go from a leaf to a root"
 unfoldable pub astray : Graph → Bool
 astray g = any (g .nodes) (λ l. any (g .nodes) (λ r. among (g .dominance) l r && not (leaf g l && root g r)))
 
--- "After the last command, in this order": 4, 5, 6.
+-- "After the last command, in this order": 4, 13 "where 5 stood", 6. A node without tree edges is a root of its own and never a leaf, so
+-- that 6 is about the grown graph, too.
 unfoldable pub whole : Graph → Outcome
-whole g = cond (cyclic g) (refused Tree) (cond (bare g) (refused Bare) (cond (astray g) (refused Ends) (accepted (content g))))
+whole g = cond (cyclic g) (refused Tree) (cond (overgrown g) (refused Overgrown) (cond (astray (grown g)) (refused Ends) (accepted (content g))))
 
 -- 0x02 and 0x03 take two operands
 unfoldable pub takesTwo : ℕ → Bool
@@ -69,11 +70,11 @@ commands n t d (b ∷ x ∷ y ∷ rest) =
     (commands n t ((x, y) ∷ d) rest))))
     (refused Command))
 
--- "0x01 n: there are n nodes, 2 to 128, numbered from 0. First command, once."
+-- "0x01 n: there are n nodes, 2 to 128, numbered from 0. First command, once." 02, Two: "n may be 1".
 unfoldable pub allCommands : List ℕ → Outcome
 allCommands [] = refused Missing
 allCommands (b ∷ []) = refused (cond (eqb b 1) Missing Command)
-allCommands (b ∷ n ∷ rest) = cond (eqb b 1) (cond (leb 2 n && leb n 128) (commands n [] [] rest) (refused Range)) (refused Command)
+allCommands (b ∷ n ∷ rest) = cond (eqb b 1) (cond (leb 1 n && leb n 128) (commands n [] [] rest) (refused Range)) (refused Command)
 
 -- the most bytes of a sheet
 abbrev pub longest : ℕ
@@ -109,13 +110,13 @@ sheet n cs = 1 ∷ n ∷ spelt cs
 unfoldable pub spells : ℕ → List EdgeCommand → Graph
 spells n cs = written n [] [] cs
 
--- The bytes are a well-formed sheet: they spell a dominance graph with 01's bounds. 02, One: "A sheet that gets 12 isn't
+-- The bytes are a well-formed sheet: what they spell grows into a dominance graph with 01's bounds. 02, One: "A sheet that gets 12 isn't
 -- well-formed."
 abbrev pub WellFormedSheet : List ℕ → Type 0
-WellFormedSheet bs = (n : ℕ) × (cs : List EdgeCommand) × (bs ≡ sheet n cs) × WellFormed (spells n cs) × (length bs ≤ longest)
+WellFormedSheet bs = (n : ℕ) × (cs : List EdgeCommand) × (bs ≡ sheet n cs) × WellWritten (spells n cs) × (length bs ≤ longest)
 
 -- "The tidy sheet has 0x01, then tree edges by ascending child, then dominance edges by ascending leaf and then root,
--- then 0x00." 02, One: "The tidy sheet has each edge once".
+-- then 0x00." 02, One: "The tidy sheet has each edge once". 02, Two: "Tidying writes no added leaf", as g is what is written.
 unfoldable pub tidyTree : Graph → List ℕ
 tidyTree g = spread (g .nodes) (λ c. spread (g .nodes) (λ p. cond (among (g .tree) p c) (2 ∷ p ∷ c ∷ []) []))
 

@@ -12,13 +12,13 @@ pub enum Refusal {
     Command,
     Range,
     Tree,
-    Bare,
     Ends,
     TooMany,
     NoReading,
     SmallBuffer,
     NoSuchReading,
     TooLong,
+    Overgrown,
 }
 
 // The number that the documents give to each refusal.
@@ -30,12 +30,12 @@ pub fn number(why: Refusal) -> u8
         Refusal::Command => 2,
         Refusal::Range => 3,
         Refusal::Tree => 4,
-        Refusal::Bare => 5,
         Refusal::Ends => 6,
         Refusal::TooMany => 8,
         Refusal::NoReading => 9,
         Refusal::SmallBuffer => 10,
         Refusal::NoSuchReading => 11,
         Refusal::TooLong => 12,
+        Refusal::Overgrown => 13,
     }
 }

@@ -1,11 +1,11 @@
--- Small facts that hold the definitions to document 01's own examples: one that fits a definition, one that just misses it.
+-- Small facts that hold the definitions to document 01's own examples and 02's: one that fits a definition, one that just misses it.
 -- The chain of two is the document's; the others are its smallest sheets.
 use Prim.Native.Nat.{ℕ}
 use mathlib.Core.Path.{_≡_, refl}
 use mathlib.Core.List.{List, [], _∷_}
 use mathlib.Core.Bool.{true, false}
 use Rattle.base_finite.specs.Below.{any, all, count, least, spread, select}
-use Rattle.graph.specs.Graph.{Graph, among, entered, left, root, leaf, parent, top, own, leafOf}
+use Rattle.graph.specs.Graph.{Graph, among, entered, left, root, leaf, parent, top, own, leafOf, bare, addedLeaf, grownTree, grown}
 use Rattle.graph.specs.Placing.{placing, hangs}
 use Rattle.graph.specs.Order.{countAnswer}
 use Rattle.graph.specs.Rule1.{problem, up, rise, depth, shallowest, problemLeaf, staying, lowestLeaf, shifted}
@@ -111,3 +111,16 @@ square-done = refl
 record-of-three : fragment chain 3 ≡ record { root = 3; «lowest_leaf» = 4; leaves = 2 }
 unfolding chain fragment lowestLeaf leafOf own top leaf entered left parent any least count
 record-of-three = refl
+
+-- 02, Two: 1-2 of four nodes; 0 and 3 stand alone, and get the leaves 4 and 5
+words : Graph
+words = record { nodes = 4; tree = (1, 2) ∷ []; dominance = (2, 3) ∷ [] }
+
+words-grown : grown words ≡ record { nodes = 6; tree = (3, 5) ∷ (0, 4) ∷ (1, 2) ∷ []; dominance = (2, 3) ∷ [] }
+unfolding words bare addedLeaf grownTree entered left count
+words-grown = refl
+
+-- "root, lowest leaf, number of leaves"
+word-fragment : fragment (grown words) 3 ≡ record { root = 3; «lowest_leaf» = 5; leaves = 1 }
+unfolding words bare addedLeaf grownTree entered left parent top own leaf leafOf lowestLeaf least any count fragment
+word-fragment = refl

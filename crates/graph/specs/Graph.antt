@@ -1,12 +1,12 @@
 -- Dominance graphs: nodes, tree edges, dominance edges, roots, leaves, fragments (document 000, Definition 4.1;
 -- document 01, "The sheet"). A graph's edges are lists of pairs, read as sets: what counts is which pairs are among them.
-use Prim.Native.Nat.{ℕ, zero, suc, _≤_, _<_}
+use Prim.Native.Nat.{ℕ, zero, suc, _+_, _≤_, _<_}
 use mathlib.Core.Path.{_≡_}
 use mathlib.Core.List.{List, [], _∷_}
 use mathlib.Core.Bool.{Bool, true, false, cond, not, _&&_, _||_}
 use mathlib.Core.Logic.{_⊎_}
 use lib.Dec.{eqb, ltb}
-use Rattle.base_finite.specs.Below.{any}
+use Rattle.base_finite.specs.Below.{any, count}
 
 -- an edge from its first part to its second
 abbrev pub Edge : Type 0
@@ -103,7 +103,7 @@ GraphEdge g u v = TreeEdge g u v ⊎ DominanceEdge g u v
 abbrev pub Descent : Graph → ℕ → ℕ → Type 0
 Descent g = Path (GraphEdge g)
 
--- "A well-formed sheet is a dominance graph (Definition 4.1)", with document 01's bounds.
+-- A dominance graph (Definition 4.1), with document 01's bounds: what a well-formed sheet means.
 pub record WellFormed (g : Graph) : Type 0 where
   -- "there are n nodes, 2 to 128"
   pub some-nodes : 2 ≤ g .nodes
@@ -117,6 +117,42 @@ pub record WellFormed (g : Graph) : Type 0 where
   -- "Each dominance edge goes from a leaf to a root, of the same fragment or another."
   pub leaf-to-root : (l r : ℕ) → DominanceEdge g l r → (leaf g l ≡ true) × (root g r ≡ true)
   -- "There are at most 255 of them", and (02, One) "8 counts different edges"
+  pub few-edges : different (g .dominance) ≤ 255
+
+-- One-word fragments (02, Two; document 000, Theorem 4.7, second point).
+
+-- "A node without tree edges"
+unfoldable pub bare : Graph → ℕ → Bool
+bare g v = not (entered (g .tree) v || left (g .tree) v)
+
+-- "Added leaves are numbered from n upward, by ascending node": the number that v's leaf gets
+unfoldable pub addedLeaf : Graph → ℕ → ℕ
+addedLeaf g v = g .nodes + count v (bare g)
+
+-- the tree edges, and one from each bare node below k to its leaf
+unfoldable pub grownTree : Graph → ℕ → List Edge
+grownTree g zero = g .tree
+grownTree g (suc k) = cond (bare g k) ((k, addedLeaf g k) ∷ grownTree g k) (grownTree g k)
+
+-- "A node without tree edges becomes a fragment whose root it is, with one leaf added"
+abbrev pub grown : Graph → Graph
+grown g = record { nodes = g .nodes + count (g .nodes) (bare g); tree = grownTree g (g .nodes); dominance = g .dominance }
+
+-- A well-formed sheet, by the nodes and edges that it writes.
+pub record WellWritten (g : Graph) : Type 0 where
+  -- 02, Two: "n may be 1"
+  pub some-nodes : 1 ≤ g .nodes
+  -- "13 when the grown number exceeds 128", and "A sheet that gets 13 isn't well-formed"
+  pub few-nodes : grown g .nodes ≤ 128
+  -- "the tree edges make node-disjoint trees"
+  pub tree-within : (p c : ℕ) → TreeEdge g p c → (p < g .nodes) × (c < g .nodes)
+  pub one-parent : single (g .tree) ≡ true
+  pub no-tree-cycle : (v : ℕ) → Path (TreeEdge g) v v → ⊥
+  -- "Each dominance edge goes from a leaf to a root", both written: a bare node is a root of its own and never a leaf, so "a dominance edge
+  -- from such a node is still 6"
+  pub dominance-within : (l r : ℕ) → DominanceEdge g l r → (l < g .nodes) × (r < g .nodes)
+  pub leaf-to-root : (l r : ℕ) → DominanceEdge g l r → (leaf (grown g) l ≡ true) × (root (grown g) r ≡ true)
+  -- "There are at most 255 of them", different ones
   pub few-edges : different (g .dominance) ≤ 255
 
 -- "their nodes and edges agree"

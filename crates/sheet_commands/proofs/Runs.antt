@@ -36,11 +36,11 @@ begins (b ∷ n ∷ rest) parents low high blank =
     by-bool (eqb b 1)
     (λ (e : eqb b 1 ≡ true).
     rw (eqb-true b 1 e)
-    (by-bool (leb 2 n && leb n 128)
-    (λ (f : (leb 2 n && leb n 128) ≡ true).
+    (by-bool (leb 1 n && leb n 128)
+    (λ (f : (leb 1 n && leb n 128) ≡ true).
     let out : allCommands (1 ∷ n ∷ rest) ≡ commands n [] [] rest = rw f in
-    rw f (record { past = omega arith; reached = ([], [], leb-true n 128 (and-both (leb 2 n) (leb n 128) f .1), out, blank n) }))
-    (λ (f : (leb 2 n && leb n 128) ≡ false).
+    rw f (record { past = omega arith; reached = ([], [], leb-true n 128 (and-both (leb 1 n) (leb n 128) f .1), out, blank n) }))
+    (λ (f : (leb 1 n && leb n 128) ≡ false).
     let out : allCommands (1 ∷ n ∷ rest) ≡ refused Range = rw f in
     rw f (record { past = tt; reached = out }))))
     (λ (e : eqb b 1 ≡ false).

@@ -8,16 +8,15 @@ use mathlib.Core.Logic.{⊎-elim}
 use native.Mathlib.Numerals.{add-one}
 use native.Mathlib.Omega.{arith}
 use lib.Dec.{eqb, leb}
-use lib.ListN.{length, getD, set, length-set}
-use lib.Seq.{getD-set-same, getD-set-other}
+use lib.ListN.{length, getD, set}
 use types.Run.{OneOf}
 use denote.Enum.Declared.{tagOf}
-use borrow.Author.Tests.{le-leb, eqb-true, eqb-false}
+use borrow.Author.Tests.{le-leb, eqb-true}
 use Rattle.base_nodeset.specs.Set.{Inserted}
 use Rattle.base_nodeset.specs.declared.NodeSet.{NodeSet}
 use Rattle.base_tables.specs.Rows.{inRow, IsRow, RowPut}
 use Rattle.base_finite.proofs.Laws.{by-bool, or-right, or-none, eqb-sym}
-use Rattle.graph.specs.Graph.{Edge, among, different, entered, single, parent, none}
+use Rattle.graph.specs.Graph.{Edge, among, different, entered, none}
 use Rattle.format.specs.Sheet.{beyond}
 use Rattle.format.specs.declared.Refusal.the-variants.{Command, Range, Tree as TreeRefusal, TooMany}
 use Rattle.theory_edges.specs.Edges.{Within}
@@ -28,6 +27,7 @@ use Rattle.sheet_commands.specs.declared.command.Step.{Step}
 use Rattle.sheet_commands.specs.declared.command.Step.the-variants.{Nodes, Tree, Dominance, End, Refused as StepRefused}
 use Rattle.base_tables.specs.Tables.{Holds}
 use Rattle.base_tables.proofs.Parents.{parent-tells}
+use Rattle.base_tables.proofs.Held.{held-tree}
 use Rattle.sheet_commands.specs.Turn.{stopOf, begun, outcomeAfter, Past, Reached, treeAnswer, dominanceAnswer, ParentsAfter, HeadsAfter}
 use Rattle.sheet_commands.specs.declared.turn.Run.{Run}
 use Rattle.sheet_commands.specs.declared.turn.Run.the-variants.{Going, Ended, Refused}
@@ -73,31 +73,6 @@ heads-put l r heads more low high low′ high′ is with-r put a b =
     (λ (e : eqb l a ≡ false). rw (eqb-sym a l, e))
 
 module _ (n : ℕ) (t d : List Edge) (rest parents low high : List ℕ) (edges : ℕ) (few : n ≤ 128) (holds : Holds n t d parents low high edges) where
-  tree-more : (p c : ℕ) → beyond n p c ≡ false → entered t c ≡ false → Holds n ((p, c) ∷ t) d (set parents c p) low high edges
-  unfolding parent single
-  tree-more p c b u =
-      let w = not-beyond n p c b in
-      record {
-        tree-within = within-more n p c t (w .0) (w .1) (holds .tree-within);
-        one-parent = rw (u, holds .one-parent);
-        dominance-within = holds .dominance-within;
-        parents-long = length-set parents c p ∙ holds .parents-long;
-        low-long = holds .low-long;
-        high-long = holds .high-long;
-        parent-is = parent-now (w .1);
-        heads-are = holds .heads-are;
-        edges-are = holds .edges-are;
-      }
-    where
-      parent-now : c < n → (v : ℕ) → v < 128 → getD (set parents c p) v 0 ≡ parent ((p, c) ∷ t) v
-      parent-now cn v h =
-          by-bool (eqb c v)
-          (λ (e : eqb c v ≡ true).
-          let long = holds .parents-long in
-          rw (e, ← eqb-true c v e, getD-set-same parents c p 0 (omega arith)))
-          (λ (e : eqb c v ≡ false).
-          rw (e, getD-set-other parents c v p 0 (λ q. eqb-false c v e (sym q)), holds .parent-is v h))
-
   pub tree-turn : (p c : ℕ) (x : Run) (after : List ℕ) → x ≡ treeAnswer n p c edges parents → ParentsAfter p c x parents after
       → Reached (outcomeAfter n t d rest (Tree p c)) rest x after low high
   unfolding Reached outcomeAfter
@@ -113,7 +88,7 @@ module _ (n : ℕ) (t d : List Edge) (rest parents low high : List ℕ) (edges :
       (λ (f : (eqb p c || entered t c) ≡ false).
       let q : x ≡ Going n edges = e ∙ rw (b, same, f) in
       let put : after ≡ set parents c p = rw q at a in
-      rw (q, put, b, f) ((p, c) ∷ t, d, few, refl, tree-more p c b (or-none (eqb p c) (entered t c) f .1))))
+      rw (q, put, b, f) ((p, c) ∷ t, d, few, refl, held-tree n t d parents low high edges holds few p c (w .0) (w .1) (or-none (eqb p c) (entered t c) f .1))))
 
   module _ (l r : ℕ) (low′ high′ : List ℕ) (el : length low′ ≡ length low) (eh : length high′ ≡ length high) where
     -- other sets of roots

@@ -25,7 +25,7 @@ stopOf End = Refused Command
 
 -- the first command: 3
 abbrev pub begun : Step → Run
-begun (Nodes n) = cond (leb 2 n && leb n 128) (Going n 0) (Refused Range)
+begun (Nodes n) = cond (leb 1 n && leb n 128) (Going n 0) (Refused Range)
 begun (StepRefused why) = Refused why
 begun (TreeStep p c) = Refused Command
 begun (Dominance l r) = Refused Command

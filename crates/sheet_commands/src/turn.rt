@@ -37,7 +37,7 @@ pub fn begin(step: Step) -> Run
         return stop(step);
     };
     let n = nodes as usize;
-    if n < 2 {
+    if n < 1 {
         return Run::Refused(Refusal::Range);
     }
     if 128 < n {

@@ -1,24 +1,26 @@
 -- The tests after the last command: each loop's step, and that the tests on the tables are those on the edges held.
-use Prim.Native.Nat.{ℕ, zero, suc, _-_, _≤_, _<_}
-use mathlib.Core.Path.{_≡_, refl, sym, _∙_}
+use Prim.Native.Nat.{ℕ, zero, suc, _+_, _-_, _≤_, _<_}
+use mathlib.Core.Path.{_≡_, refl, sym, ap, ap₂, _∙_}
 use mathlib.Core.List.{List}
-use mathlib.Core.Bool.{Bool, true, false, not, _&&_}
+use mathlib.Core.Bool.{Bool, true, false, not, _&&_, _||_}
 use native.Mathlib.Omega.{arith}
 use lib.ListN.{getD}
-use borrow.Author.Tests.{eq-eqb, ne-eqb, lt-ltb}
-use Rattle.base_finite.specs.Below.{any}
-use Rattle.base_finite.proofs.Laws.{by-bool, any-ext, any-cut, and-true, neither, and-both}
-use Rattle.base_nodeset.specs.Set.{member, mem, Difference}
+use borrow.Author.Tests.{eq-eqb, ne-eqb, lt-ltb, le-ltb}
+use Rattle.base_finite.specs.Below.{any, count}
+use Rattle.base_finite.proofs.Laws.{by-bool, any-ext, any-cut, any-found, and-true, and-both}
+use Rattle.base_nodeset.specs.Set.{member, mem, Difference, Union}
 use Rattle.base_nodeset.specs.declared.NodeSet.{NodeSet}
 use Rattle.theory_edges.specs.Edges.{Within}
 use Rattle.theory_edges.proofs.Edges.{parent-among}
-use Rattle.theory_edges.proofs.Ends.{root-below}
+use Rattle.theory_edges.proofs.Growing.{leaf-grown, root-grown}
 use Rattle.base_tables.proofs.Parents.{parentless, inner-held, root-held}
-use Rattle.graph.specs.Graph.{Edge, Graph, entered, left, parent, root, leaf, none, rises, cyclic}
-use Rattle.format.specs.Sheet.{bare, astray, whole, refused, accepted, content}
-use Rattle.format.specs.declared.Refusal.the-variants.{Tree, Bare, Ends}
+use Rattle.graph.specs.Graph.{Edge, Graph, among, entered, left, parent, root, leaf, none, rises, cyclic, bare, grown}
+use Rattle.format.specs.Sheet.{overgrown, astray, whole, refused, accepted, content}
+use Rattle.format.specs.declared.Refusal.the-variants.{Tree, Ends, Overgrown}
 use Rattle.base_tables.specs.Tables.{Holds}
 use Rattle.base_tables.specs.Trees.{InnerSet, RootSet, innerIn, rootIn}
+use Rattle.sheet_grow.specs.Grow.{BareSet}
+use Rattle.sheet_grow.proofs.Grown.{bare-set, set-counted, bare-held, bare-counted}
 use Rattle.sheet_decode.specs.Judge.{risesIn, cyclicIn, strays, astrayIn}
 
 -- one edge up
@@ -83,30 +85,48 @@ module _ (n : ℕ) (t d : List Edge) (parents low high : List ℕ) (edges : ℕ)
   unfolding root
   root-of-node v h = rw (lt-ltb v n h)
 
-  leaf-held : (v : ℕ) → v < n → leaf (graphOf n t d) v ≡ not (innerIn n parents v)
-  unfolding leaf
-  leaf-held v h = rw (lt-ltb v n h, inner-is v h)
+  module _ (inner roots both : NodeSet) (is-inner : InnerSet n parents inner) (is-roots : RootSet n parents roots) (is : Difference roots inner both) where
+    bare-is : BareSet n parents both
+    bare-is = bare-set n parents inner roots both is-inner is-roots is
 
-  module _ (inner roots : NodeSet) (is-inner : InnerSet n parents inner) (is-roots : RootSet n parents roots) where
-    pub bare-held : (both : NodeSet) → Difference roots inner both → any 128 (mem both) ≡ bare (graphOf n t d)
-    unfolding bare
-    bare-held both is =
-        any-cut 128 n (mem both) few (λ k h m.
-        let both-are : (root (graphOf n t d) k && not (mem inner k)) ≡ true = rw (is k, is-roots k, root-is k) at m in
-        root-below (graphOf n t d) k (and-both (root (graphOf n t d) k) (not (mem inner k)) both-are .0))
-        ∙ any-ext n (mem both) _ (λ v h.
-        is v
-        ∙ rw (is-roots v, is-inner v (omega arith), root-is v, inner-is v h, root-of-node v h, neither (entered t v) (left t v)))
+    -- the grown number, with k of them
+    module _ (k : ℕ) (counted : k ≡ count 128 (mem both)) where
+      number : n + k ≡ grown (graphOf n t d) .nodes
+      number = ap (λ (m : ℕ). n + m) (counted ∙ set-counted n parents both bare-is) ∙ bare-counted (graphOf n t d) few parents low high edges holds
 
-    pub astray-held : astrayIn n low high inner roots ≡ astray (graphOf n t d)
+      pub overgrown-held : 128 < n + k → overgrown (graphOf n t d) ≡ true
+      unfolding overgrown
+      overgrown-held h = lt-ltb 128 (grown (graphOf n t d) .nodes) (omega (arith, h, number))
+
+      pub not-overgrown-held : n + k ≤ 128 → overgrown (graphOf n t d) ≡ false
+      unfolding overgrown
+      not-overgrown-held h = le-ltb 128 (grown (graphOf n t d) .nodes) (omega (arith, h, number))
+
+    -- with their leaves, bare nodes are inner nodes
+    inner-grown : (more : NodeSet) → Union inner both more → (l : ℕ) → l < n → leaf (grown (graphOf n t d)) l ≡ not (mem more l)
+    inner-grown more m l h =
+        let same : mem more l ≡ (left t l || bare (graphOf n t d) l) =
+        m l ∙ ap₂ _||_ (is-inner l (omega arith) ∙ inner-is l h) (bare-is l (omega arith) ∙ bare-held (graphOf n t d) few parents low high edges holds l h) in
+        leaf-grown (graphOf n t d) l h ∙ ap not (sym same)
+
+    root-still : (r : ℕ) → r < n → root (grown (graphOf n t d)) r ≡ mem roots r
+    root-still r h = root-grown (graphOf n t d) r h ∙ sym (is-roots r ∙ root-is r ∙ root-of-node r h)
+
+    pub astray-held : (more : NodeSet) → Union inner both more → astrayIn n low high more roots ≡ astray (grown (graphOf n t d))
     unfolding astrayIn astray
-    astray-held =
+    astray-held more m =
+        let g : Graph = grown (graphOf n t d) in
+        let test : ℕ → ℕ → Bool = λ l r. among d l r && not (leaf g l && root g r) in
+        let edge : (l r : ℕ) → test l r ≡ true → (l < n) × (r < n) = λ l r e. holds .dominance-within l r (and-both (among d l r) (not (leaf g l && root g r)) e .0) in
+        let row : ℕ → ℕ → Bool = λ l r. member (getD low l 0) (getD high l 0) r && not (not (mem more l) && mem roots r) in
+        let all : ℕ = g .nodes in
         any-ext n _ _ (λ l hl.
-        any-cut 128 n _ few (λ r h m.
-        let row = member (getD low l 0) (getD high l 0) r in
-        let is : row ≡ true = and-both row (not (not (mem inner l) && mem roots r)) m .0 in
-        holds .dominance-within l r (sym (holds .heads-are l r) ∙ is) .1)
-        ∙ any-ext n _ _ (λ r hr. rw (holds .heads-are l r, is-inner l (omega arith), is-roots r, root-is r, leaf-held l hl)))
+        any-cut 128 n (row l) few (λ r h e.
+        let held : member (getD low l 0) (getD high l 0) r ≡ true = and-both (member (getD low l 0) (getD high l 0) r) (not (not (mem more l) && mem roots r)) e .0 in
+        holds .dominance-within l r (sym (holds .heads-are l r) ∙ held) .1)
+        ∙ any-ext n (row l) (test l) (λ r hr. rw (holds .heads-are l r, inner-grown more m l hl, root-still r hr))
+        ∙ sym (any-cut all n (test l) (omega arith) (λ r h e. edge l r e .1)))
+        ∙ sym (any-cut all n (λ l. any all (test l)) (omega arith) (λ l h e. let r = any-found all (test l) e in edge l (r .0) (r .2) .0))
 
 -- the first test to hold decides
 
@@ -115,14 +135,14 @@ module _ (g : Graph) where
   unfolding whole
   whole-tree e = rw e
 
-  pub whole-bare : cyclic g ≡ false → bare g ≡ true → whole g ≡ refused Bare
+  pub whole-overgrown : cyclic g ≡ false → overgrown g ≡ true → whole g ≡ refused Overgrown
   unfolding whole
-  whole-bare e f = rw (e, f)
+  whole-overgrown e f = rw (e, f)
 
-  pub whole-ends : cyclic g ≡ false → bare g ≡ false → astray g ≡ true → whole g ≡ refused Ends
+  pub whole-ends : cyclic g ≡ false → overgrown g ≡ false → astray (grown g) ≡ true → whole g ≡ refused Ends
   unfolding whole
   whole-ends e f h = rw (e, f, h)
 
-  pub whole-accepted : cyclic g ≡ false → bare g ≡ false → astray g ≡ false → whole g ≡ accepted (content g)
+  pub whole-accepted : cyclic g ≡ false → overgrown g ≡ false → astray (grown g) ≡ false → whole g ≡ accepted (content g)
   unfolding whole
   whole-accepted e f h = rw (e, f, h)

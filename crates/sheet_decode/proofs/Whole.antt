@@ -18,7 +18,7 @@ use Rattle.base_tables.specs.Tables.{Holds}
 use Rattle.sheet_commands.specs.Turn.{Reached}
 use Rattle.sheet_commands.specs.Run.{Blank, Ran}
 use Rattle.sheet_decode.specs.Judge.{Judged}
-use Rattle.sheet_decode.specs.Read.{stopOf, unacceptedOf, Decodes, Value, Reads}
+use Rattle.sheet_decode.specs.Read.{stopOf, unacceptedOf, Decodes, ReadsWritten}
 use Rattle.sheet_commands.specs.declared.turn.Run.{Run}
 use Rattle.sheet_commands.specs.declared.turn.Run.the-variants.{Going, Ended, Refused as RunRefused}
 use Rattle.sheet_decode.specs.declared.judge.Verdict.{Verdict}
@@ -77,15 +77,14 @@ module _ (s parents low high : List ℕ) (x : Run) (ran : Ran s x parents low hi
 
 -- the value is read off the tables
 pub reads-refused : (o : Outcome) (x : Decoded) (parents low high : List ℕ) (r : Answer) (why : Refusal) → Decodes o x parents low high
-    → x ≡ Refused why → r .verdict ≡ VerdictRefused why → Reads o r
+    → x ≡ Refused why → r .verdict ≡ VerdictRefused why → ReadsWritten o r
 unfolding Decodes
 reads-refused o x parents low high r why d e v = rw (rw e at d) v
 
 pub reads-accepted : (o : Outcome) (x : Decoded) (parents low high : List ℕ) (r : Answer) (n k : ℕ) → Decodes o x parents low high
     → x ≡ Filled n k → r .verdict ≡ Accepted → r .graph .n ≡ n → r .graph .parent ≡ parents → r .graph .low ≡ low → r .graph .high ≡ high → r .graph .edges ≡ k
-    → Reads o r
+    → ReadsWritten o r
 unfolding Decodes
 reads-accepted o x parents low high r n k d e v en ep el eh ek =
     let h = rw e at d in
-    let value : Value (h .0) (r .graph) = record { nodes = en ∙ sym (h .2); tables = rw (ep, el, eh, ek, h .2) (h .3) } in
-    rw (h .1) (v, value, value)
+    rw (h .1) (v, record { nodes = en ∙ sym (h .2); tables = rw (ep, el, eh, ek, h .2) (h .3) })

@@ -1,4 +1,4 @@
-// What is tested after the last command: 4, 5, 6.
+// What is tested after the last command: 4, 13, 6.
 use base_nodeset::NodeSet;
 use base_tables::rows::set_at;
 use base_tables::trees::inner_nodes;
@@ -86,10 +86,12 @@ pub fn judge(n: usize, parent: &[u8], low: &[u64], high: &[u64]) -> Verdict
     }
     let inner = inner_nodes(parent, n);
     let roots = root_nodes(parent, n);
-    if !roots.difference(inner).is_empty() {
-        return Verdict::Refused(Refusal::Bare);
+    let bare = roots.difference(inner);
+    if 128 < n + bare.count() {
+        return Verdict::Refused(Refusal::Overgrown);
     }
-    if astray(low, high, n, inner, roots) {
+    // A bare node is no leaf: it will have one.
+    if astray(low, high, n, inner.union(bare), roots) {
         return Verdict::Refused(Refusal::Ends);
     }
     Verdict::Accepted

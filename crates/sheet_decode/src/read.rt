@@ -1,4 +1,4 @@
-// A whole sheet: the graph that it spells, or its refusal.
+// A whole sheet: what it writes, and the graph that it means; or its refusal.
 use crate::judge::Verdict;
 use crate::judge::judge;
 use format::LONGEST;
@@ -6,10 +6,11 @@ use format::Refusal;
 use graph::NONE;
 use sheet_commands::run::commands;
 use sheet_commands::turn::Run;
+use sheet_grow::grow;
 ghost use mathlib.Core.Path.{_≡_};
 ghost use Rattle.format.specs.Sheet.{allCommands, outcome};
 ghost use Rattle.sheet_commands.specs.Run.{Blank};
-ghost use Rattle.sheet_decode.specs.Read.{stopOf, unacceptedOf, Decodes, Reads};
+ghost use Rattle.sheet_decode.specs.Read.{stopOf, unacceptedOf, Decodes, ReadsWritten, Reads, Growable, GrownFrom};
 
 pub enum Decoded {
     // The number of nodes and of dominance edges.
@@ -27,7 +28,7 @@ pub struct Graph {
     pub edges: usize,
 }
 
-// The graph is that of the sheet where the verdict accepts it.
+// The graph is the sheet's where the verdict accepts it.
 pub struct Answer {
     pub verdict: Verdict,
     pub graph: Graph,
@@ -81,8 +82,9 @@ fn decode_into(sheet: &[u8], parent: &mut [u8], low: &mut [u64], high: &mut [u64
     decode_commands(sheet, parent, low, high)
 }
 
-pub fn read(sheet: &[u8]) -> Answer
-    ensures { λ r. ⌜ Reads (outcome (now (sheet .entry))) r ⌝ }
+// What the sheet writes.
+pub fn read_written(sheet: &[u8]) -> Answer
+    ensures { λ r. ⌜ ReadsWritten (outcome (now (sheet .entry))) r ⌝ }
 {
     let mut parent = [NONE; 128];
     let mut low = [0u64; 128];
@@ -107,6 +109,40 @@ pub fn read(sheet: &[u8]) -> Answer
                 high,
                 edges,
             },
+        },
+    }
+}
+
+// The graph with a leaf below each node without tree edges.
+fn grown(graph: Graph) -> Graph
+    requires { ⌜ Growable (graph .n) (graph .parent) ⌝ }
+    ensures { λ r. ⌜ GrownFrom graph r ⌝ }
+{
+    let mut parent = graph.parent;
+    let low = graph.low;
+    let high = graph.high;
+    let n = grow(&mut parent, graph.n);
+    Graph {
+        n,
+        parent,
+        low,
+        high,
+        edges: graph.edges,
+    }
+}
+
+// The graph that the sheet means.
+pub fn read(sheet: &[u8]) -> Answer
+    ensures { λ r. ⌜ Reads (outcome (now (sheet .entry))) r ⌝ }
+{
+    let answer = read_written(sheet);
+    let verdict = answer.verdict;
+    let graph = answer.graph;
+    match verdict {
+        Verdict::Refused(_) => Answer { verdict, graph },
+        Verdict::Accepted => Answer {
+            verdict,
+            graph: grown(graph),
         },
     }
 }

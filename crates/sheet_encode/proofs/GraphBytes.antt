@@ -15,6 +15,7 @@ use Rattle.base_nodeset.specs.Set.{member}
 use Rattle.graph.specs.Graph.{Edge, among, entered, parent, none}
 use Rattle.format.specs.Sheet.{tidy, tidyTree, tidyDominance}
 use Rattle.theory_edges.proofs.Edges.{parent-among, parent-unentered, parent-only, among-unentered}
+use Rattle.theory_edges.proofs.Growing.{few-written}
 use Rattle.theory_format.proofs.Tidy.{tidy-length}
 use Rattle.base_tables.specs.Tables.{Holds}
 use Rattle.base_tables.specs.Trees.{Parents}
@@ -65,7 +66,6 @@ module _ (n : ℕ) (t d : List Edge) (parents low high : List ℕ) (edges : ℕ)
   tree-part-held = spread-ext n _ _ (λ c h. tree-bytes-held c h)
 
   row-held : (l : ℕ) → rowBytes l (record { low = getD low l 0; high = getD high l 0 }) ≡ spread n (λ r. cond (among d l r) (3 ∷ l ∷ r ∷ []) [])
-  unfolding rowBytes
   row-held l =
       spread-gap (rowCommand l (record { low = getD low l 0; high = getD high l 0 })) n 128 few (λ r a b.
       let gone : member (getD low l 0) (getD high l 0) r ≡ false =
@@ -79,7 +79,7 @@ module _ (n : ℕ) (t d : List Edge) (parents low high : List ℕ) (edges : ℕ)
 
 module _ (n : ℕ) (parents low high : List ℕ) (edges : ℕ) (h : TidyTables n parents low high edges) where
   few : n ≤ 128
-  few = rw (h .nodes) (h .well-formed .few-nodes)
+  few = rw (h .nodes) (few-written (h .graph) (h .well-written))
 
   tables : Holds n (h .graph .tree) (h .graph .dominance) parents low high edges
   tables = subst⁻¹ (λ (m : ℕ). Holds m (h .graph .tree) (h .graph .dominance) parents low high edges) (h .nodes) (h .holds)
@@ -100,7 +100,7 @@ module _ (n : ℕ) (parents low high : List ℕ) (edges : ℕ) (h : TidyTables n
   held-few = few
 
   pub held-edges : edges ≤ 255
-  held-edges = rw (h .holds .edges-are) (h .well-formed .few-edges)
+  held-edges = rw (h .holds .edges-are) (h .well-written .few-edges)
 
   pub held-trees : treesIn n parents ≤ n
   held-trees = rw (trees-held n (h .graph .tree) (h .graph .dominance) parents low high edges few tables) (count-le n (entered (h .graph .tree)))
@@ -109,7 +109,7 @@ module _ (n : ℕ) (parents low high : List ℕ) (edges : ℕ) (h : TidyTables n
   held-length =
       let trees : treesIn n parents ≡ count (h .graph .nodes) (entered (h .graph .tree)) =
       trees-held n (h .graph .tree) (h .graph .dominance) parents low high edges few tables ∙ ap (λ (m : ℕ). count m (entered (h .graph .tree))) (h .nodes) in
-      rw (trees, h .holds .edges-are) (sym (tidy-length (h .graph) (h .well-formed)))
+      rw (trees, h .holds .edges-are) (sym (tidy-length (h .graph) (h .well-written)))
 
   pub held-bytes : tidy (h .graph) ≡ 1 ∷ n ∷ treePart n parents ++ dominancePart n low high ++ 0 ∷ []
   unfolding tidy

@@ -28,7 +28,7 @@ abbrev pub rowCommand : ℕ → NodeSet → ℕ → List ℕ
 rowCommand l row r = cond (mem row r) (3 ∷ l ∷ r ∷ []) []
 
 -- the commands of the dominance edges from l to the members of the row, by ascending root
-unfoldable pub rowBytes : ℕ → NodeSet → List ℕ
+abbrev pub rowBytes : ℕ → NodeSet → List ℕ
 rowBytes l row = spread 128 (rowCommand l row)
 
 -- the commands of all dominance edges, by ascending leaf and then root
@@ -42,10 +42,10 @@ moreTrees k p = k + cond (not (eqb p spec.none)) 1 0
 unfoldable pub treesIn : ℕ → List ℕ → ℕ
 treesIn n parents = count n (λ c. not (eqb (getD parents c 0) spec.none))
 
--- the tables of a well-formed graph
+-- the tables of what a well-formed sheet writes
 pub record TidyTables (n : ℕ) (parents low high : List ℕ) (edges : ℕ) : Type 0 where
   pub graph : spec.Graph
-  pub well-formed : spec.WellFormed graph
+  pub well-written : spec.WellWritten graph
   pub nodes : n ≡ graph .nodes
   pub holds : Holds (graph .nodes) (graph .tree) (graph .dominance) parents low high edges
 

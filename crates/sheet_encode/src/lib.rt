@@ -1,11 +1,11 @@
-// Tidying: the sheet of the same graph with its commands in the tidy order.
+// Tidying: the sheet that writes the same, with its commands in the tidy order.
 use base_nodeset::NodeSet;
 use base_nodeset::Popped;
 use base_tables::rows::set_at;
 use format::Refusal;
 use graph::NONE;
 use sheet_decode::judge::Verdict;
-use sheet_decode::read::read;
+use sheet_decode::read::read_written;
 ghost use mathlib.Core.Path.{_≡_};
 ghost use Prim.Native.Nat.{_+_, _≤_, _<_};
 ghost use mathlib.Core.List.{[], _∷_};
@@ -131,7 +131,7 @@ pub fn write(
 pub fn tidy(sheet: &[u8], out: &mut [u8]) -> Tidied
     ensures { λ r. ⌜ Tidies (outcome (now (sheet .entry))) r (now (out .entry)) (now (out .exit)) ⌝ }
 {
-    let answer = read(sheet);
+    let answer = read_written(sheet);
     let verdict = answer.verdict;
     let graph = answer.graph;
     let parent = graph.parent;

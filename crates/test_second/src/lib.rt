@@ -14,14 +14,15 @@ use agenda::complete;
 use agenda::fill;
 use build::build;
 use build::everything;
+use sheet::grow;
 use sheet::nodes_of;
 use sheet::unpack;
 use ways::MORE;
 use ways::product;
 ghost use Prim.Native.Nat.{_+_, _≤_};
 
-// How many nodes, dominance edges and readings a sheet has. Readings are 0 where there is no solved form, and 65,536 where there
-// are more than 65,535.
+// How many nodes a sheet has, added leaves counted, how many dominance edges and how many readings. Readings are 0 where there is no
+// solved form, and 65,536 where there are more than 65,535.
 pub struct Size {
     pub nodes: usize,
     pub edges: usize,
@@ -42,8 +43,8 @@ fn read(sheet: &[u8], nodes: &mut [u8], links: &mut [u64]) -> Graph
     let mut parent = [255u8; 128];
     let mut leaves = [0u8; 255];
     let mut roots = [0u8; 255];
-    let n = nodes_of(sheet);
     let edges = unpack(sheet, &mut parent, &mut leaves, &mut roots);
+    let n = grow(&mut parent, nodes_of(sheet));
     let fragments = build(&parent, n, &leaves, &roots, edges, nodes, links);
     Graph {
         n,

@@ -1,5 +1,6 @@
-// A well-formed sheet, taken apart.
+// A well-formed sheet, taken apart and grown.
 use crate::build::NODES;
+use crate::table::NONE;
 use crate::table::byte;
 use crate::table::put;
 ghost use Prim.Native.Nat.{_≤_};
@@ -12,6 +13,7 @@ const TREE: usize = 2;
 // Where the first edge stands.
 const FIRST: usize = 2;
 
+// How many nodes are written.
 pub fn nodes_of(sheet: &[u8]) -> usize
     ensures { λ r. ⌜ r ≤ 128 ⌝ }
 {
@@ -66,4 +68,44 @@ fn keep(
     put(leaves, number, from);
     put(roots, number, to);
     std::num::wrapping_add_usize(number, 1)
+}
+
+// Whether v, one of the n nodes that are written, has no tree edge.
+fn bare(parent: &[u8], n: usize, v: usize) -> bool {
+    if byte(parent, v) != NONE {
+        return false;
+    }
+    for child in 0..n {
+        if byte(parent, child) == v {
+            return false;
+        }
+    }
+    true
+}
+
+// Adds a leaf with the next number to v if it is bare; the number after.
+fn add_leaf(parent: &mut [u8], n: usize, v: usize, next: usize) -> usize
+    requires { ⌜ next ≤ 128 ⌝ }
+    ensures { λ r. ⌜ r ≤ 128 ⌝ }
+{
+    if NODES <= next {
+        return next;
+    }
+    if !bare(parent, n, v) {
+        return next;
+    }
+    put(parent, next, v);
+    next + 1
+}
+
+// Adds the leaves of bare nodes, numbered from n upward by ascending node; how many nodes there are then.
+pub fn grow(parent: &mut [u8], n: usize) -> usize
+    requires { ⌜ n ≤ 128 ⌝ }
+    ensures { λ r. ⌜ r ≤ 128 ⌝ }
+{
+    let mut next = n;
+    for v in 0..n {
+        next = add_leaf(parent, n, v, next);
+    }
+    next
 }

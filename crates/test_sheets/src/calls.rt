@@ -2,6 +2,7 @@
 use counter::Counted;
 use counter::CycleChecked;
 use counter::Drawn;
+use counter::Measured;
 use counter::Place;
 use counter::Placed;
 use counter::PlacingChecked;
@@ -11,6 +12,7 @@ use counter::configuration;
 use counter::count;
 use counter::drawing;
 use counter::fragment_table;
+use counter::nodes;
 use counter::tidy;
 use format::number;
 use sheet_encode::Tidied;
@@ -23,6 +25,13 @@ fn counted(sheet: &[u8]) -> u8 {
     match count(sheet) {
         Counted::Readings(_) => 0,
         Counted::Refused(why) => number(why),
+    }
+}
+
+fn measured(sheet: &[u8]) -> u8 {
+    match nodes(sheet) {
+        Measured::Nodes(_) => 0,
+        Measured::Refused(why) => number(why),
     }
 }
 
@@ -69,9 +78,9 @@ fn tabled(sheet: &[u8], out: &mut [u8]) -> u8 {
     }
 }
 
-// The numbers that count, checks, reading, configuration, drawing, tidying and table give, with the place handed back after the
-// reading's; then the four bytes that these were lent.
-pub fn refused_calls(sheet: &[u8]) -> [u8; 13] {
+// The numbers that count, nodes, checks, reading, configuration, drawing, tidying and table give, with the place handed back
+// after the reading's; then the four bytes that these were lent.
+pub fn refused_calls(sheet: &[u8]) -> [u8; 14] {
     let mut out = [MARK; 4];
     let next = Place { number: 1 }.next(sheet, &mut out);
     let answer = next.answer;
@@ -82,6 +91,7 @@ pub fn refused_calls(sheet: &[u8]) -> [u8; 13] {
     let tabled = tabled(sheet, &mut out);
     [
         counted(sheet),
+        measured(sheet),
         checked_cycle(sheet),
         checked_placing(sheet),
         placed(answer),

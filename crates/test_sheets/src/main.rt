@@ -1,11 +1,13 @@
-// Tidies each sheet of the input and tabulates its fragments; a sheet that is refused goes to every other call as well. A sheet comes
-// with its length, two bytes, before it.
+// Tidies each sheet of the input, tells its number of nodes and tabulates its fragments; a sheet that is refused goes to every other
+// call as well. A sheet comes with its length, two bytes, before it.
 mod calls;
 
 use base_text::hex_line;
 use base_text::refused_line;
 use calls::refused_calls;
+use counter::Measured;
 use counter::fragment_table;
+use counter::nodes;
 use counter::tidy;
 use format::Refusal;
 use libc::STDOUT_FILENO;
@@ -41,6 +43,22 @@ fn print_table(sheet: &[u8]) {
     }
 }
 
+fn print_nodes(sheet: &[u8]) {
+    match nodes(sheet) {
+        Measured::Refused(why) => print_refusal(why),
+        Measured::Nodes(number) => {
+            io::write_all(STDOUT_FILENO, b"nodes ");
+            io::print_decimal(STDOUT_FILENO, number as u64);
+            io::write_all(STDOUT_FILENO, b"\n");
+        }
+    }
+}
+
+fn print_fragments(sheet: &[u8]) {
+    print_nodes(sheet);
+    print_table(sheet);
+}
+
 fn print_calls(sheet: &[u8]) {
     io::write_all(STDOUT_FILENO, b"calls ");
     print_bytes(&refused_calls(sheet));
@@ -57,7 +75,7 @@ fn print_sheet(sheet: &[u8]) {
             if bytes <= 2048 {
                 io::write_all(STDOUT_FILENO, b"tidy ");
                 print_bytes(&out[..bytes]);
-                print_table(sheet);
+                print_fragments(sheet);
             }
         }
     }

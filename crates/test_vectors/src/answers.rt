@@ -2,6 +2,7 @@
 use capi_put::put_drawn;
 use check_placing::Answers;
 use counter::CycleChecked;
+use counter::Measured;
 use counter::Next;
 use counter::Place;
 use counter::Placed;
@@ -10,6 +11,7 @@ use counter::check_cycle;
 use counter::check_placing;
 use counter::configuration;
 use counter::drawing;
+use counter::nodes;
 ghost use Prim.Native.Nat.{_≤_};
 
 // What the lent bytes hold before a call.
@@ -21,6 +23,14 @@ pub fn fails(right: bool) -> usize {
 
 pub fn plus(a: usize, b: usize) -> usize {
     std::num::wrapping_add_usize(a, b)
+}
+
+// How many nodes the sheet has, added leaves counted; 0 where it is refused.
+pub fn nodes_of(sheet: &[u8]) -> usize {
+    match nodes(sheet) {
+        Measured::Nodes(number) => number,
+        Measured::Refused(_) => 0,
+    }
 }
 
 // The bytes lent for a reading of a sheet with n nodes.

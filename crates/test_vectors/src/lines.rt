@@ -1,6 +1,7 @@
 // What is printed: lines for a sheet with a name, and the sums.
 use crate::Sums;
 use crate::answers::MARK;
+use crate::answers::nodes_of;
 use crate::answers::part;
 use crate::answers::plus;
 use capi_put::put_drawn;
@@ -40,7 +41,7 @@ fn reading_lines(sheet: &[u8], readings: usize) {
         let next = place.next(sheet, &mut out);
         place = next.place;
         decimal(plus(number, 1));
-        placing_line(&out, byte(sheet, 1));
+        placing_line(&out, nodes_of(sheet));
     }
 }
 
@@ -58,7 +59,7 @@ fn configuration_line(sheet: &[u8]) {
     let mut out = [MARK; 256];
     configuration(sheet, &mut out);
     text(b"configuration");
-    placing_line(&out, byte(sheet, 1));
+    placing_line(&out, nodes_of(sheet));
 }
 
 // A short list's readings, configuration and first drawing besides.

@@ -1,6 +1,6 @@
-// Takes the well-formed sheets of its input through the public calls, each against the second solver: the cases of document 01, the
-// chains of Section 9 of document 000, and generated ones. A mismatch is a sheet with an answer that is not what the documents and
-// the second solver say.
+// Takes the well-formed sheets of its input through the public calls, each against the second solver: the cases of documents 01 and
+// 02, the chains of Section 9 of document 000, and generated ones. A mismatch is a sheet with an answer that is not what the documents
+// and the second solver say.
 mod answers;
 mod lines;
 mod refused;

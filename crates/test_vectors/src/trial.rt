@@ -1,4 +1,5 @@
 // One well-formed sheet through all calls.
+use crate::answers::nodes_of;
 use crate::refused::no_reading;
 use crate::refused::short_buffers;
 use crate::solved::all_top;
@@ -67,6 +68,12 @@ pub fn trial(sheet: &[u8]) -> Found {
     let size = test_second::measure(sheet);
     let n = size.nodes;
     let readings = size.readings;
+    if nodes_of(sheet) != n {
+        return Found {
+            readings,
+            right: false,
+        };
+    }
     if !short_buffers(sheet, n) {
         return Found {
             readings,

@@ -22,9 +22,9 @@ use Rattle.format.specs.Text.{printed}
 use Rattle.theory_cases.specs.Table.{refusal, lists, drawn, configured-to, Holds, rows, square, fork, square-placing, ConfiguredTo}
 use Rattle.theory_cases.proofs.Rows.{all-hold}
 
-pub thirteen-rows : length rows ≡ 13
+pub all-rows : length rows ≡ 21
 unfolding rows
-thirteen-rows = refl
+all-rows = refl
 
 -- the square, by the row of its configuration
 pub some-solvable : (s : Content) × (outcome square ≡ accepted s) × WellFormed (s .graph) × SolvedForm (s .graph) square-placing

@@ -114,6 +114,22 @@ twice = 1 ∷ 4 ∷ 2 ∷ 0 ∷ 1 ∷ 2 ∷ 2 ∷ 3 ∷ 3 ∷ 1 ∷ 2 ∷ 3 ∷ 
 unfoldable pub tree-twice : List ℕ
 tree-twice = 1 ∷ 4 ∷ 2 ∷ 0 ∷ 1 ∷ 2 ∷ 0 ∷ 1 ∷ 2 ∷ 2 ∷ 3 ∷ 3 ∷ 1 ∷ 2 ∷ 0 ∷ []
 
+-- 02, Two: 0x01 0x02 0x00
+unfoldable pub two-words : List ℕ
+two-words = 1 ∷ 2 ∷ 0 ∷ []
+
+-- 0-1 of 4 nodes, with 1-2, 1-3
+unfoldable pub words-below : List ℕ
+words-below = 1 ∷ 4 ∷ 2 ∷ 0 ∷ 1 ∷ 3 ∷ 1 ∷ 2 ∷ 3 ∷ 1 ∷ 3 ∷ 0 ∷ []
+
+-- 0-1, 0-2 of 4 nodes, with 1-3, 2-3
+unfoldable pub word-fork : List ℕ
+word-fork = 1 ∷ 4 ∷ 2 ∷ 0 ∷ 1 ∷ 2 ∷ 0 ∷ 2 ∷ 3 ∷ 1 ∷ 3 ∷ 3 ∷ 2 ∷ 3 ∷ 0 ∷ []
+
+-- the chain of two without its node 11
+unfoldable pub short-chain : List ℕ
+short-chain = 1 ∷ 11 ∷ 2 ∷ 0 ∷ 1 ∷ 2 ∷ 0 ∷ 2 ∷ 2 ∷ 3 ∷ 4 ∷ 2 ∷ 3 ∷ 5 ∷ 2 ∷ 6 ∷ 7 ∷ 2 ∷ 8 ∷ 9 ∷ 3 ∷ 1 ∷ 6 ∷ 3 ∷ 2 ∷ 8 ∷ 3 ∷ 4 ∷ 8 ∷ 3 ∷ 5 ∷ 10 ∷ 0 ∷ []
+
 -- the lines
 
 -- "readings 1"
@@ -156,17 +172,33 @@ chain-drawing = 48 ∷ 40 ∷ 49 ∷ 91 ∷ 54 ∷ 40 ∷ 55 ∷ 41 ∷ 93 ∷ 4
 unfoldable pub square-placing : List ℕ
 square-placing = 255 ∷ 255 ∷ 1 ∷ 255 ∷ 3 ∷ 255 ∷ 5 ∷ 255 ∷ []
 
+-- "0(2);1(3)"
+unfoldable pub two-words-drawing : List ℕ
+two-words-drawing = 48 ∷ 40 ∷ 50 ∷ 41 ∷ 59 ∷ 49 ∷ 40 ∷ 51 ∷ 41 ∷ []
+
+-- "1 2:1 3:1"
+unfoldable pub words-below-1 : List ℕ
+words-below-1 = 49 ∷ 32 ∷ 50 ∷ 58 ∷ 49 ∷ 32 ∷ 51 ∷ 58 ∷ 49 ∷ 10 ∷ []
+
+-- "0(1[2(4);3(5)])"
+unfoldable pub words-below-drawing : List ℕ
+words-below-drawing = 48 ∷ 40 ∷ 49 ∷ 91 ∷ 50 ∷ 40 ∷ 52 ∷ 41 ∷ 59 ∷ 51 ∷ 40 ∷ 53 ∷ 41 ∷ 93 ∷ 41 ∷ []
+
+-- the placing 2:1 3:4
+unfoldable pub words-below-placing : List ℕ
+words-below-placing = 255 ∷ 255 ∷ 1 ∷ 4 ∷ 255 ∷ 255 ∷ []
+
 -- The table.
 pub record Row : Type 0 where
   pub sheet : List ℕ
   pub claim : Claim
 
 unfoldable pub rows : List Row
-unfolding one-edge loop fork square chain twice tree-twice readings-1 readings-2 line-1 twice-1 square-1 square-2 chain-1 chain-2 chain-drawing square-placing
+unfolding one-edge loop fork square chain twice tree-twice two-words words-below word-fork short-chain readings-1 readings-2 line-1 twice-1 square-1 square-2 chain-1 chain-2 chain-drawing square-placing two-words-drawing words-below-1 words-below-drawing words-below-placing
 rows =
     record { sheet = []; claim = refusal 1 }
     ∷ record { sheet = 0x05 ∷ []; claim = refusal 2 }
-    ∷ record { sheet = 0x01 ∷ 0x02 ∷ 0x00 ∷ []; claim = refusal 5 }
+    ∷ record { sheet = two-words; claim = lists (readings-1 ∷ line-1 ∷ []) }
     ∷ record { sheet = one-edge; claim = lists (readings-1 ∷ line-1 ∷ []) }
     ∷ record { sheet = loop; claim = no-reading 9 (0 ∷ 2 ∷ 1 ∷ 3 ∷ []) }
     ∷ record { sheet = fork; claim = no-reading 9 (0 ∷ 2 ∷ 1 ∷ 3 ∷ 3 ∷ 3 ∷ 2 ∷ 2 ∷ []) }
@@ -177,6 +209,14 @@ rows =
     ∷ record { sheet = chain; claim = drawn 1 chain-drawing }
     ∷ record { sheet = twice; claim = lists (readings-1 ∷ twice-1 ∷ []) }
     ∷ record { sheet = tree-twice; claim = refusal 4 }
+    ∷ record { sheet = 0x01 ∷ 0x01 ∷ []; claim = refusal 1 }
+    ∷ record { sheet = two-words; claim = drawn 1 two-words-drawing }
+    ∷ record { sheet = words-below; claim = lists (readings-1 ∷ words-below-1 ∷ []) }
+    ∷ record { sheet = words-below; claim = drawn 1 words-below-drawing }
+    ∷ record { sheet = words-below; claim = configured-to words-below-placing }
+    ∷ record { sheet = word-fork; claim = no-reading 9 (0 ∷ 2 ∷ 1 ∷ 3 ∷ 3 ∷ 3 ∷ 2 ∷ 2 ∷ []) }
+    ∷ record { sheet = short-chain; claim = lists (readings-2 ∷ chain-1 ∷ chain-2 ∷ []) }
+    ∷ record { sheet = short-chain; claim = drawn 1 chain-drawing }
     ∷ []
 
 -- the row at i, from 0

@@ -1,19 +1,20 @@
--- The checks: each has one answer; bytes that are no placing get three noes; and neither check, nor tidying, nor the fragment
--- table ever gives 9, which the numbers of their answers exclude (counter: Numbers).
+-- The number of nodes and the checks: each has one answer; bytes that are no placing get three noes; and none of these calls, nor tidying,
+-- nor the fragment table ever gives 9, which the numbers of their answers exclude (counter: Numbers).
 use Prim.Native.Nat.{ℕ, _≤_, _<_}
-use mathlib.Core.Path.{_≡_, refl, sym, ap, _∙_}
+use mathlib.Core.Path.{_≡_, refl, sym, ap, subst, _∙_}
 use mathlib.Core.List.{List}
 use mathlib.Core.Bool.{Bool, true, false, true≢false}
 use mathlib.Core.Logic.{_↔_, ⊎-elim}
 use native.Mathlib.Omega.{arith}
 use lib.ListN.{length, take}
 use Rattle.base_finite.proofs.Laws.{not-holding, test-ext}
-use Rattle.graph.specs.Graph.{Graph}
+use Rattle.graph.specs.Graph.{Graph, grown}
 use Rattle.graph.specs.Placing.{placing}
 use Rattle.graph.specs.Table.{fragments}
 use Rattle.graph.specs.declared.Fragment.{Fragment}
 use Rattle.format.specs.Sheet.{Content, Outcome, refused, accepted, outcome, tidy}
 use Rattle.format.specs.Refusal.{number}
+use Rattle.theory_format.proofs.Spelling.{accepted-grown}
 use Rattle.theory_format.proofs.Refusals.{refused-number, not-9}
 use Rattle.check_placing.specs.Answered.{Answered}
 use Rattle.check_placing.specs.declared.Answers.{Answers}
@@ -25,13 +26,23 @@ use Rattle.sheet_fragments.specs.declared.Table.{Table}
 use Rattle.solve_answer.specs.Calls.{placingNumber, PlacingCall}
 use Rattle.solve_answer.specs.declared.PlacingChecked.{PlacingChecked}
 use Rattle.solve_answer.specs.declared.PlacingChecked.the-variants.{Answers as Answered-so}
-use Rattle.counter.specs.Checks.{cycleNumber, tidiedNumber, tableNumber, CycleOf, PlacingOf}
+use Rattle.counter.specs.Checks.{measuredNumber, cycleNumber, tidiedNumber, tableNumber, NodesOf, CycleOf, PlacingOf}
 use Rattle.counter.specs.Numbers.{First, NoRefusal, Numbered, PlacingNumbered}
+use Rattle.counter.specs.declared.Measured.{Measured}
+use Rattle.counter.specs.declared.Measured.the-variants.{Nodes}
 use Rattle.counter.specs.declared.CycleChecked.{CycleChecked}
 use Rattle.counter.proofs.Numbers.{placing-numbered, tidy-numbered, table-numbered, records-numbered}
 use Rattle.theory_demand.specs.Demand.{asNoReading}
 
 -- one answer
+
+pub nodes-determined : (o : Outcome) (r r′ : Measured) → NodesOf o r → NodesOf o r′ → r ≡ r′
+nodes-determined (refused why) r r′ e e′ = e ∙ sym e′
+nodes-determined (accepted s) r r′ e e′ = e ∙ sym e′
+
+-- the number told is the grown one
+pub nodes-grown : (bs : List ℕ) (s : Content) (r : Measured) → outcome bs ≡ accepted s → NodesOf (outcome bs) r → r ≡ Nodes (grown (s .written) .nodes)
+nodes-grown bs s r e n = subst (λ (o : Outcome). NodesOf o r) e n ∙ ap (λ (g : Graph). Nodes (g .nodes)) (accepted-grown bs s e)
 
 pub check-cycle-determined : (o : Outcome) (cycle : List ℕ) (r r′ : CycleChecked) → CycleOf o cycle r → CycleOf o cycle r′ → r ≡ r′
 check-cycle-determined (refused why) cycle r r′ e e′ = e ∙ sym e′
@@ -82,10 +93,14 @@ no-placing (PlacingCall.answered a f x) h e =
 
 -- "Checking, tidying and the fragment table never give 9."
 
--- 1 to 6, 8 and 12 are the sheet's, and after them comes only 10
+-- 1 to 4, 6, 8, 12 and 13 are the sheet's, and after them comes only 10
 never : (bs : List ℕ) (small : Content → Type 0) (o : Outcome) (k : ℕ) → outcome bs ≡ o → Numbered (λ s. First 10 (small s) NoRefusal) o k → k ≡ asNoReading → ⊥
 never bs small (refused why) k is e n = not-9 (number why) (refused-number bs why is) (sym e ∙ n)
 never bs small (accepted s) k is x n = ⊎-elim (λ (y : small s × (k ≡ 10)). omega (arith, n, y .1)) (λ (y : (small s → ⊥) × (k ≡ 0)). omega (arith, n, y .1)) x
+
+nodes-never : (bs : List ℕ) (o : Outcome) (r : Measured) → outcome bs ≡ o → NodesOf o r → measuredNumber r ≡ asNoReading → ⊥
+nodes-never bs (refused why) r is e n = not-9 (number why) (refused-number bs why is) (sym (ap measuredNumber e) ∙ n)
+nodes-never bs (accepted s) r is e n = omega (arith, n, ap measuredNumber e)
 
 cycle-never : (bs cycle : List ℕ) (o : Outcome) (r : CycleChecked) → outcome bs ≡ o → CycleOf o cycle r → cycleNumber r ≡ asNoReading → ⊥
 cycle-never bs cycle (refused why) r is e n = not-9 (number why) (refused-number bs why is) (sym (ap cycleNumber e) ∙ n)
@@ -94,6 +109,9 @@ cycle-never bs cycle (accepted s) r is e n = omega (arith, n, ap cycleNumber e)
 placing-number : (o : Outcome) (bytes : List ℕ) (r : PlacingChecked) → PlacingOf o bytes r → PlacingNumbered bytes o (placingNumber r)
 placing-number (refused why) bytes r e = ap placingNumber e
 placing-number (accepted s) bytes r x = placing-numbered s x
+
+pub nodes-never-9 : (bs : List ℕ) (r : Measured) → NodesOf (outcome bs) r → measuredNumber r ≡ asNoReading → ⊥
+nodes-never-9 bs r = nodes-never bs (outcome bs) r refl
 
 pub check-cycle-never-9 : (bs cycle : List ℕ) (r : CycleChecked) → CycleOf (outcome bs) cycle r → cycleNumber r ≡ asNoReading → ⊥
 check-cycle-never-9 bs cycle r = cycle-never bs cycle (outcome bs) r refl

@@ -5,11 +5,11 @@ use mathlib.Core.List.{List}
 use native.Mathlib.Omega.{arith}
 use lib.ListN.{length, take}
 use lib.Seq.{take-length}
-use Rattle.graph.specs.Graph.{Graph}
+use Rattle.graph.specs.Graph.{Graph, grown}
 use Rattle.format.specs.Sheet.{Content, Outcome, outcome, accepted}
 use Rattle.graph.specs.Placing.{Below, Contains}
 use Rattle.graph.specs.Order.{Listing, ExactlyOne}
-use Rattle.theory_format.proofs.Spelling.{accepted-well-formed}
+use Rattle.theory_format.proofs.Spelling.{accepted-grown, accepted-well-formed}
 use Rattle.theory_forest.specs.Shape.{Shaped}
 use Rattle.theory_forest.proofs.Shape.{well-formed-shaped}
 use Rattle.theory_list.specs.Readings.{listed}
@@ -30,8 +30,9 @@ module _ (written g : Graph) (s : Shaped g) (cs : List Call) (c : Chain (accepte
   handed-all : least (g .nodes) cs ps ≡ length ps → handedOut (g .nodes) cs ≡ listed g
   handed-all e = handed-in-turn ∙ ap (λ (k : ℕ). take k ps) e ∙ take-length ps ∙ listing-unique g s l (listing-exists g s)
 
-pub demand-3 : (bs : List ℕ) (x : Content) → outcome bs ≡ accepted x → Demand3 bs (x .graph)
-demand-3 bs x e =
+-- of the graph that it means
+of-meaning : (bs : List ℕ) (x : Content) → outcome bs ≡ accepted x → Demand3 bs (x .graph)
+of-meaning bs x e =
     let g : Graph = x .graph in
     let w = accepted-well-formed bs x e in
     let s = well-formed-shaped w in
@@ -49,3 +50,7 @@ demand-3 bs x e =
       exactly-one = λ cs c ps l k p f.
           subst (ExactlyOne (λ q. Contains (Below g p) (Below g q))) (sym (handed-all (x .written) g s cs (subst (λ (o : Outcome). Chain o 0 cs) e c) ps l k)) (one-below g s p f);
     }
+
+-- 02, Two: "the mission's third demand speaks of the grown graph", that of the nodes and edges written
+pub demand-3 : (bs : List ℕ) (x : Content) → outcome bs ≡ accepted x → Demand3 bs (grown (x .written))
+demand-3 bs x e = subst (Demand3 bs) (accepted-grown bs x e) (of-meaning bs x e)

@@ -1,5 +1,5 @@
--- The third demand of the mission, as one statement about a well-formed sheet: bytes `bs` whose outcome is that they are
--- accepted as the graph g. Its calls are what crates/counter promises of them (specs/Calls.antt). Each part stands under
+-- The third demand of the mission, as one statement about a well-formed sheet: bytes `bs` that are accepted, and g the graph that they
+-- mean. (02, Two: it "speaks of the grown graph".) Its calls are what crates/counter promises of them (specs/Calls.antt). Each part stands under
 -- the words of the demand that it says; "01" marks words of document 01.
 use Prim.Native.Nat.{ℕ, _+_, _*_, _≤_, min}
 use mathlib.Core.Path.{_≡_}

@@ -4,3 +4,4 @@ pub mod Cyclic
 pub mod Tables
 pub mod Ends
 pub mod Agreement
+pub mod Growing

@@ -3,3 +3,4 @@ pub mod Closure
 pub mod Table
 pub mod Fragments
 pub mod Forests
+pub mod Words

@@ -1,5 +1,5 @@
--- Bytes that are refused are refused by a number of 1 to 6, 8 or 12: what later calls add, 9, 10 and 11, is no refusal of the
--- bytes. No refusal has the number 7.
+-- Bytes that are refused are refused by a number of 1 to 4, 6, 8, 12 or 13: what later calls add, 9, 10 and 11, is no refusal of the
+-- bytes. No refusal has the number 5 or 7.
 use Prim.Native.Nat.{ℕ, _≤_}
 use mathlib.Core.Path.{_≡_, refl, subst}
 use mathlib.Core.List.{List, [], _∷_}
@@ -8,15 +8,15 @@ use mathlib.Core.Logic.{_⊎_, inl, inr}
 use native.Mathlib.Omega.{arith}
 use lib.Dec.{eqb, leb, ltb}
 use lib.ListN.{length}
-use Rattle.graph.specs.Graph.{Edge, Graph, among, different, entered, cyclic}
-use Rattle.format.specs.Sheet.{Outcome, refused, accepted, bare, astray, whole, takesTwo, beyond, commands, allCommands, longest, outcome}
+use Rattle.graph.specs.Graph.{Edge, Graph, among, different, entered, cyclic, grown}
+use Rattle.format.specs.Sheet.{Outcome, refused, accepted, overgrown, astray, whole, takesTwo, beyond, commands, allCommands, longest, outcome}
 use Rattle.format.specs.Refusal.{number}
 use Rattle.format.specs.declared.Refusal.{Refusal}
-use Rattle.format.specs.declared.Refusal.the-variants.{Missing, Command, Range, Tree, Bare, Ends, TooMany, NoReading, SmallBuffer, NoSuchReading, TooLong}
+use Rattle.format.specs.declared.Refusal.the-variants.{Missing, Command, Range, Tree, Ends, TooMany, NoReading, SmallBuffer, NoSuchReading, TooLong, Overgrown}
 
 -- a number that bytes may be refused by
 abbrev pub OfBytes : ℕ → Type 0
-OfBytes k = ((1 ≤ k) × (k ≤ 6)) ⊎ ((k ≡ 8) ⊎ (k ≡ 12))
+OfBytes k = ((1 ≤ k) × (k ≤ 4)) ⊎ ((k ≡ 6) ⊎ ((k ≡ 8) ⊎ ((k ≡ 12) ⊎ (k ≡ 13))))
 
 -- if it is a refusal, its number is one of these
 abbrev Few : Outcome → Type 0
@@ -45,7 +45,7 @@ command = inl (omega arith, omega arith)
 
 whole-few : (g : Graph) → Few (whole g)
 unfolding whole
-whole-few g = either (cyclic g) _ _ tree (either (bare g) _ _ (inl (omega arith, omega arith)) (either (astray g) _ _ (inl (omega arith, omega arith)) tt))
+whole-few g = either (cyclic g) _ _ tree (either (overgrown g) _ _ (inr (inr (inr (inr refl)))) (either (astray (grown g)) _ _ (inr (inl refl)) tt))
 
 commands-few : (n : ℕ) (t d : List Edge) (bs : List ℕ) → Few (commands n t d bs)
 unfolding commands
@@ -57,18 +57,18 @@ commands-few n t d (b ∷ x ∷ y ∷ rest) =
     (either (beyond n x y) _ _ range (either (eqb x y || entered t y) _ _ tree (commands-few n ((x, y) ∷ t) d rest)))
     (either (eqb b 3) _ _
     (either (beyond n x y) _ _ range
-    (either (among d x y) _ _ (commands-few n t d rest) (either (leb 255 (different d)) _ _ (inr (inl refl)) (commands-few n t ((x, y) ∷ d) rest))))
+    (either (among d x y) _ _ (commands-few n t d rest) (either (leb 255 (different d)) _ _ (inr (inr (inl refl))) (commands-few n t ((x, y) ∷ d) rest))))
     command)
 
 all-few : (bs : List ℕ) → Few (allCommands bs)
 unfolding allCommands
 all-few [] = inl (omega arith, omega arith)
 all-few (b ∷ []) = missing-or-command (eqb b 1)
-all-few (b ∷ n ∷ rest) = either (eqb b 1) _ _ (either (leb 2 n && leb n 128) _ _ (commands-few n [] [] rest) range) command
+all-few (b ∷ n ∷ rest) = either (eqb b 1) _ _ (either (leb 1 n && leb n 128) _ _ (commands-few n [] [] rest) range) command
 
 outcome-few : (bs : List ℕ) → Few (outcome bs)
 unfolding outcome
-outcome-few bs = either (ltb longest (length bs)) _ _ (inr (inr refl)) (all-few bs)
+outcome-few bs = either (ltb longest (length bs)) _ _ (inr (inr (inr (inl refl)))) (all-few bs)
 
 pub refused-number : (bs : List ℕ) (why : Refusal) → outcome bs ≡ refused why → OfBytes (number why)
 refused-number bs why e = subst Few e (outcome-few bs)
@@ -77,7 +77,9 @@ refused-number bs why e = subst Few e (outcome-few bs)
 pub not-9 : (k : ℕ) → OfBytes k → k ≡ 9 → ⊥
 not-9 k (inl b) e = omega (arith, b .1, e)
 not-9 k (inr (inl b)) e = omega (arith, b, e)
-not-9 k (inr (inr b)) e = omega (arith, b, e)
+not-9 k (inr (inr (inl b))) e = omega (arith, b, e)
+not-9 k (inr (inr (inr (inl b)))) e = omega (arith, b, e)
+not-9 k (inr (inr (inr (inr b)))) e = omega (arith, b, e)
 
 -- 02, One: "Refusal 7 then no longer occurs"
 pub never-7 : (why : Refusal) → number why ≡ 7 → ⊥
@@ -85,10 +87,24 @@ never-7 Missing e = omega arith
 never-7 Command e = omega arith
 never-7 Range e = omega arith
 never-7 Tree e = omega arith
-never-7 Bare e = omega arith
 never-7 Ends e = omega arith
 never-7 TooMany e = omega arith
 never-7 NoReading e = omega arith
 never-7 SmallBuffer e = omega arith
 never-7 NoSuchReading e = omega arith
 never-7 TooLong e = omega arith
+never-7 Overgrown e = omega arith
+
+-- 02, Two: "refusal 5 no longer occurs"
+pub never-5 : (why : Refusal) → number why ≡ 5 → ⊥
+never-5 Missing e = omega arith
+never-5 Command e = omega arith
+never-5 Range e = omega arith
+never-5 Tree e = omega arith
+never-5 Ends e = omega arith
+never-5 TooMany e = omega arith
+never-5 NoReading e = omega arith
+never-5 SmallBuffer e = omega arith
+never-5 NoSuchReading e = omega arith
+never-5 TooLong e = omega arith
+never-5 Overgrown e = omega arith

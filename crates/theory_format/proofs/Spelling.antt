@@ -13,18 +13,18 @@ use lib.Dec.{eqb, leb}
 use lib.ListN.{length}
 use borrow.Author.Tests.{eqb-true, leb-true, leb-false, le-leb, lt-leb, ne-eqb}
 use Rattle.base_finite.proofs.Laws.{by-bool, or-none, and-both}
-use Rattle.graph.specs.Graph.{Edge, Graph, among, different, entered, single, TreeEdge, one, WellFormed, Agree}
+use Rattle.graph.specs.Graph.{Edge, Graph, among, different, entered, single, TreeEdge, one, grown, WellFormed, WellWritten, Agree}
 use Rattle.format.specs.Sheet.{Content, Outcome, refused, accepted, content, whole, takesTwo, beyond, commands, allCommands, longest, outcome, EdgeCommand, tree-edge, dominance-edge, spelt, written, sheet, spells, WellFormedSheet}
 use Rattle.format.specs.declared.Refusal.the-variants.{Missing, Command, Range, Tree, TooMany}
-use Rattle.theory_edges.proofs.Ends.{dominance-within}
 use Rattle.theory_edges.proofs.Edges.{among-first, among-rest, among-none, among-again, within-more, single-cons}
-use Rattle.theory_edges.proofs.Agreement.{agree-sym, well-formed-agree}
-use Rattle.theory_format.proofs.Whole.{Taken, not-refused, passed, whole-same, well-formed-of-whole, whole-of-well-formed}
+use Rattle.theory_edges.proofs.Agreement.{agree-sym}
+use Rattle.theory_edges.proofs.Growing.{few-written, grown-well-formed, well-written-agree}
+use Rattle.theory_format.proofs.Whole.{Taken, not-refused, passed, whole-same, well-written-of-whole, whole-of-well-written}
 use Rattle.theory_format.proofs.Length.{short-enough, accepted-short}
 
 -- what the commands take
 
-taken-none : (n : ℕ) → 2 ≤ n → n ≤ 128 → Taken n [] []
+taken-none : (n : ℕ) → 1 ≤ n → n ≤ 128 → Taken n [] []
 unfolding single different
 taken-none n a b =
     record {
@@ -91,14 +91,14 @@ once n t d (dominance-edge l r ∷ cs) = once n t (added d l r) cs
 
 -- the bytes after the first command spell commands that give s on top of t and d, and what is written is well-formed
 abbrev Spelt : ℕ → List Edge → List Edge → List ℕ → Content → Type 0
-Spelt n t d bs s = (cs : List EdgeCommand) × (bs ≡ spelt cs) × (s ≡ content (once n t d cs)) × WellFormed (once n t d cs)
+Spelt n t d bs s = (cs : List EdgeCommand) × (bs ≡ spelt cs) × (s ≡ content (once n t d cs)) × WellWritten (once n t d cs)
 
 spelt-end : (n : ℕ) (t d : List Edge) (b : ℕ) (s : Content) → Taken n t d → b ≡ 0 → whole (record { nodes = n; tree = t; dominance = d }) ≡ accepted s → Spelt n t d (b ∷ []) s
 unfolding spelt once
 spelt-end n t d b s k q e =
     let h : Graph = record { nodes = n; tree = t; dominance = d } in
     let same : s ≡ content h = whole-same h s e in
-    ([], rw q, same, well-formed-of-whole h k (rw same at e))
+    ([], rw q, same, well-written-of-whole h k (rw same at e))
 
 spelt-tree : (n : ℕ) (t d : List Edge) (b x y : ℕ) (rest : List ℕ) (s : Content) → b ≡ 2 → Spelt n ((x, y) ∷ t) d rest s → Spelt n t d (b ∷ x ∷ y ∷ rest) s
 unfolding spelt once
@@ -185,20 +185,20 @@ once-agrees n cs =
       same-dominance = once-dominance n [] [] [] cs (λ u v. refl);
     }
 
-first-command : (b n : ℕ) (rest : List ℕ) (s : Content) → allCommands (b ∷ n ∷ rest) ≡ accepted s → (b ≡ 1) × (2 ≤ n) × (n ≤ 128) × (commands n [] [] rest ≡ accepted s)
+first-command : (b n : ℕ) (rest : List ℕ) (s : Content) → allCommands (b ∷ n ∷ rest) ≡ accepted s → (b ≡ 1) × (1 ≤ n) × (n ≤ 128) × (commands n [] [] rest ≡ accepted s)
 unfolding allCommands
 first-command b n rest s e =
     by-bool (eqb b 1)
     (λ (z : eqb b 1 ≡ true).
-    by-bool (leb 2 n && leb n 128)
-    (λ (w : (leb 2 n && leb n 128) ≡ true).
-    let a = and-both (leb 2 n) (leb n 128) w in
-    (eqb-true b 1 z, leb-true 2 n (a .0), leb-true n 128 (a .1), rw (z, w) at e))
-    (λ (w : (leb 2 n && leb n 128) ≡ false). absurd (not-refused Range s (rw (z, w) at e))))
+    by-bool (leb 1 n && leb n 128)
+    (λ (w : (leb 1 n && leb n 128) ≡ true).
+    let a = and-both (leb 1 n) (leb n 128) w in
+    (eqb-true b 1 z, leb-true 1 n (a .0), leb-true n 128 (a .1), rw (z, w) at e))
+    (λ (w : (leb 1 n && leb n 128) ≡ false). absurd (not-refused Range s (rw (z, w) at e))))
     (λ (z : eqb b 1 ≡ false). absurd (not-refused Command s (rw z at e)))
 
 commands-accepted : (bs : List ℕ) (s : Content) → allCommands bs ≡ accepted s
-    → (n : ℕ) × (cs : List EdgeCommand) × (bs ≡ sheet n cs) × (s ≡ content (once n [] [] cs)) × WellFormed (once n [] [] cs)
+    → (n : ℕ) × (cs : List EdgeCommand) × (bs ≡ sheet n cs) × (s ≡ content (once n [] [] cs)) × WellWritten (once n [] [] cs)
 unfolding allCommands sheet
 commands-accepted [] s e = absurd (not-refused Missing s e)
 commands-accepted (b ∷ []) s e = absurd (not-refused (cond (eqb b 1) Missing Command) s e)
@@ -210,17 +210,17 @@ commands-accepted (b ∷ n ∷ rest) s e =
     let others : rest ≡ spelt cs = r .1 in
     (n, cs, cc, r .2, r .3)
 
-once-well-formed : (n : ℕ) (cs : List EdgeCommand) → WellFormed (once n [] [] cs) → WellFormed (spells n cs)
+once-well-written : (n : ℕ) (cs : List EdgeCommand) → WellWritten (once n [] [] cs) → WellWritten (spells n cs)
 unfolding spells
-once-well-formed n cs w = well-formed-agree (once n [] [] cs) (written n [] [] cs) (once-agrees n cs) w (rw (← once-tree n [] [] [] cs) (w .one-parent))
+once-well-written n cs w = well-written-agree (once n [] [] cs) (written n [] [] cs) (once-agrees n cs) w (rw (← once-tree n [] [] [] cs) (w .one-parent))
 
 -- What accepted bytes are: a sheet's, whose commands write what was read. It is well-formed, and so is what was read, each edge once.
 pub record Accepts (bs : List ℕ) (s : Content) : Type 0 where
   pub commands : List EdgeCommand
   pub bytes : bs ≡ sheet (s .written .nodes) commands
   pub agrees : Agree (s .written) (spells (s .written .nodes) commands)
-  pub well-formed : WellFormed (s .written)
-  pub spelt-well-formed : WellFormed (spells (s .written .nodes) commands)
+  pub well-written : WellWritten (s .written)
+  pub spelt-well-written : WellWritten (spells (s .written .nodes) commands)
   pub means : s ≡ content (s .written)
   pub short : length bs ≤ longest
 
@@ -235,16 +235,19 @@ accepted-spells bs s e =
       commands = r .1;
       bytes = r .2 ∙ ap (λ (n : ℕ). sheet n (r .1)) nodes;
       agrees = subst (λ (n : ℕ). Agree g (spells n (r .1))) nodes (once-agrees (r .0) (r .1));
-      well-formed = r .4;
-      spelt-well-formed = subst (λ (n : ℕ). WellFormed (spells n (r .1))) nodes (once-well-formed (r .0) (r .1) (r .4));
+      well-written = r .4;
+      spelt-well-written = subst (λ (n : ℕ). WellWritten (spells n (r .1))) nodes (once-well-written (r .0) (r .1) (r .4));
       means = refl;
       short = a .0;
     })
 
+-- 02, Two: what a sheet means is what it writes, grown
+pub accepted-grown : (bs : List ℕ) (s : Content) → outcome bs ≡ accepted s → s .graph ≡ grown (s .written)
+accepted-grown bs s e = ap (λ (x : Content). x .graph) (accepted-spells bs s e .means)
+
 pub accepted-well-formed : (bs : List ℕ) (s : Content) → outcome bs ≡ accepted s → WellFormed (s .graph)
 accepted-well-formed bs s e =
-    let a = accepted-spells bs s e in
-    subst (λ (x : Content). WellFormed (x .graph)) (sym (a .means)) (a .well-formed)
+    subst WellFormed (sym (accepted-grown bs s e)) (grown-well-formed (s .written) (accepted-spells bs s e .well-written))
 
 -- what held of the lists before the commands put edges on top of them
 
@@ -284,15 +287,15 @@ unfolding beyond
 within-beyond n x y a b = rw (lt-leb n x a, lt-leb n y b)
 
 -- a new edge finds room
-room : (n : ℕ) (t d : List Edge) (l r : ℕ) (cs : List EdgeCommand) → WellFormed (once n t ((l, r) ∷ d) cs) → among d l r ≡ false → leb 255 (different d) ≡ false
+room : (n : ℕ) (t d : List Edge) (l r : ℕ) (cs : List EdgeCommand) → WellWritten (once n t ((l, r) ∷ d) cs) → among d l r ≡ false → leb 255 (different d) ≡ false
 unfolding different
 room n t d l r cs w f =
     let more : different ((l, r) ∷ d) ≤ different (once n t ((l, r) ∷ d) cs .dominance) = different-before n t ((l, r) ∷ d) cs in
     lt-leb 255 (different d) (omega (arith, (rw f at more), w .few-edges))
 
-spelt-accepted : (n : ℕ) (t d : List Edge) (cs : List EdgeCommand) → WellFormed (once n t d cs) → commands n t d (spelt cs) ≡ accepted (content (once n t d cs))
+spelt-accepted : (n : ℕ) (t d : List Edge) (cs : List EdgeCommand) → WellWritten (once n t d cs) → commands n t d (spelt cs) ≡ accepted (content (once n t d cs))
 unfolding commands spelt once
-spelt-accepted n t d [] w = whole-of-well-formed (record { nodes = n; tree = t; dominance = d }) w
+spelt-accepted n t d [] w = whole-of-well-written (record { nodes = n; tree = t; dominance = d }) w
 spelt-accepted n t d (tree-edge p c ∷ cs) w =
     let g : Graph = once n ((p, c) ∷ t) d cs in
     let same : g .nodes ≡ n = once-nodes n ((p, c) ∷ t) d cs in
@@ -305,23 +308,28 @@ spelt-accepted n t d (tree-edge p c ∷ cs) w =
 spelt-accepted n t d (dominance-edge l r ∷ cs) w =
     let g : Graph = once n t (added d l r) cs in
     let same : g .nodes ≡ n = once-nodes n t (added d l r) cs in
-    let b = dominance-within g w l r (dominance-kept n t (added d l r) cs l r (added-among d l r l r ∙ among-first (l, r) d l r refl refl)) in
+    let b = w .dominance-within l r (dominance-kept n t (added d l r) cs l r (added-among d l r l r ∙ among-first (l, r) d l r refl refl)) in
     let inside : beyond n l r ≡ false = within-beyond n l r (omega arith) (omega arith) in
+    let with-edges : (e : List Edge) → added d l r ≡ e → commands n t d (3 ∷ l ∷ r ∷ spelt cs) ≡ accepted (content (once n t e cs))
+    → commands n t d (3 ∷ l ∷ r ∷ spelt cs) ≡ accepted (content g) =
+    λ e is. subst (λ (e : List Edge). commands n t d (3 ∷ l ∷ r ∷ spelt cs) ≡ accepted (content (once n t e cs))) (sym is) in
     by-bool (among d l r)
-    (λ (f : among d l r ≡ true). rw (inside, f) (spelt-accepted n t d cs (rw f at w)))
+    (λ (f : among d l r ≡ true).
+    let v : WellWritten (once n t d cs) = subst (λ (e : List Edge). WellWritten (once n t e cs)) (rw f) w in
+    with-edges d (rw f) (rw (inside, f) (spelt-accepted n t d cs v)))
     (λ (f : among d l r ≡ false).
-    let v : WellFormed (once n t ((l, r) ∷ d) cs) = rw f at w in
-    rw (inside, f, room n t d l r cs v f) (spelt-accepted n t ((l, r) ∷ d) cs v))
+    let v : WellWritten (once n t ((l, r) ∷ d) cs) = subst (λ (e : List Edge). WellWritten (once n t e cs)) (rw f) w in
+    with-edges ((l, r) ∷ d) (rw f) (rw (inside, f, room n t d l r cs v f) (spelt-accepted n t ((l, r) ∷ d) cs v)))
 
-pub spells-accepted : (n : ℕ) (cs : List EdgeCommand) → WellFormed (spells n cs) → length (sheet n cs) ≤ longest → (g : Graph) × (outcome (sheet n cs) ≡ accepted (content g)) × Agree g (spells n cs)
+pub spells-accepted : (n : ℕ) (cs : List EdgeCommand) → WellWritten (spells n cs) → length (sheet n cs) ≤ longest → (g : Graph) × (outcome (sheet n cs) ≡ accepted (content g)) × Agree g (spells n cs)
 unfolding allCommands sheet spells
 spells-accepted n cs w short =
     let g : Graph = once n [] [] cs in
     let k : Agree g (written n [] [] cs) = once-agrees n cs in
-    let v : WellFormed g = well-formed-agree (written n [] [] cs) g (agree-sym g (written n [] [] cs) k) w (rw (once-tree n [] [] [] cs) (w .one-parent)) in
+    let v : WellWritten g = well-written-agree (written n [] [] cs) g (agree-sym g (written n [] [] cs) k) w (rw (once-tree n [] [] [] cs) (w .one-parent)) in
     let same : g .nodes ≡ n = once-nodes n [] [] cs in
-    let some : leb 2 n ≡ true = le-leb 2 n (omega (arith, v .some-nodes)) in
-    let few : leb n 128 ≡ true = le-leb n 128 (omega (arith, v .few-nodes)) in
+    let some : leb 1 n ≡ true = le-leb 1 n (omega (arith, v .some-nodes)) in
+    let few : leb n 128 ≡ true = le-leb n 128 (omega (arith, few-written g v)) in
     (g, short-enough (1 ∷ n ∷ spelt cs) short ∙ rw (some, few) (spelt-accepted n [] [] cs v), k)
 
 -- accepted exactly when well-formed
@@ -329,7 +337,7 @@ pub accepted-exactly : (bs : List ℕ) → ((s : Content) × (outcome bs ≡ acc
 accepted-exactly bs = (
   λ (a : (s : Content) × (outcome bs ≡ accepted s)).
       let r = accepted-spells bs (a .0) (a .1) in
-      (a .0 .written .nodes, r .commands, r .bytes, r .spelt-well-formed, r .short),
+      (a .0 .written .nodes, r .commands, r .bytes, r .spelt-well-written, r .short),
   λ (v : WellFormedSheet bs).
       let r = spells-accepted (v .0) (v .1) (v .3) (subst (λ (l : List ℕ). length l ≤ longest) (v .2) (v .4)) in
       (content (r .0), ap outcome (v .2) ∙ r .1),

@@ -4,22 +4,25 @@
 use Prim.Native.Nat.{ℕ, zero, suc, _+_, _*_, _≤_, _<_}
 use mathlib.Core.Path.{_≡_, refl, sym, ap, subst, _∙_}
 use mathlib.Core.List.{List, [], _∷_, _++_, map, reverse, reverseAux, append-assoc}
-use mathlib.Core.Bool.{Bool, true, false, cond}
+use mathlib.Core.Bool.{Bool, true, false, cond, true≢false}
 use mathlib.Core.Logic.{_↔_}
 use native.Mathlib.Omega.{arith}
+use lib.Dec.{ltb}
 use lib.ListN.{length, length-append}
+use borrow.Author.Tests.{ltb-true, ltb-false}
 use Rattle.base_finite.specs.Below.{count, spread}
 use Rattle.base_finite.proofs.Laws.{by-bool, spread-ext, count-le, count-none, count-one-more, not-holding, test-ext}
 use Rattle.base_finite.proofs.Counting.{count-grows}
-use Rattle.graph.specs.Graph.{Edge, Graph, among, different, entered, single, root, parent, own, WellFormed, Agree}
+use Rattle.graph.specs.Graph.{Edge, Graph, among, different, entered, single, root, parent, own, addedLeaf, grown, WellWritten, Agree}
 use Rattle.format.specs.Sheet.{Content, accepted, content, longest, outcome, EdgeCommand, tree-edge, dominance-edge, spelt, written, sheet, spells, tidyTree, tidyDominance, tidy}
 use Rattle.theory_edges.specs.Edges.{Within, distinct, sum}
 use Rattle.theory_edges.proofs.Edges.{among-unentered, parent-among, parent-only, one-parent, sum-ext, different-same, different-short, distinct-different}
 use Rattle.theory_format.proofs.Whole.{accepted-same}
-use Rattle.theory_format.proofs.Spelling.{accepted-spells, accepted-well-formed, spells-accepted}
-use Rattle.theory_edges.proofs.Ends.{dominance-within, root-below}
+use Rattle.theory_format.proofs.Spelling.{accepted-spells, spells-accepted}
+use Rattle.theory_edges.proofs.Ends.{root-below}
 use Rattle.theory_edges.proofs.Tables.{among-reverse, distinct-reverse, single-of-distinct, cell, row, table, among-table, table-among, distinct-table, length-table}
-use Rattle.theory_edges.proofs.Agreement.{agree-sym, agree-trans, well-formed-agree}
+use Rattle.theory_edges.proofs.Agreement.{agree-sym, agree-trans}
+use Rattle.theory_edges.proofs.Growing.{entered-old, entered-new, few-written, grown-well-formed, well-written-agree}
 use Rattle.theory_forest.proofs.Shape.{well-formed-shaped}
 use Rattle.theory_forest.proofs.Fragments.{root-unentered, own-root}
 
@@ -155,27 +158,27 @@ spells-tidied g =
     written-trees (g .nodes) [] [] (treeEdges g) (map toDominance (dominanceEdges g))
     ∙ written-dominances (g .nodes) (reverse (treeEdges g)) [] (dominanceEdges g)
 
-pub tidied-agrees : (g : Graph) → WellFormed g → Agree g (tidied g)
+pub tidied-agrees : (g : Graph) → WellWritten g → Agree g (tidied g)
 unfolding tidied
 tidied-agrees g w =
     record {
       same-nodes = refl;
       same-tree = λ p c. sym (among-reverse (treeEdges g) p c ∙ tree-edges-among g (w .tree-within) p c);
-      same-dominance = λ l r. sym (among-reverse (dominanceEdges g) l r ∙ dominance-edges-among g (dominance-within g w) l r);
+      same-dominance = λ l r. sym (among-reverse (dominanceEdges g) l r ∙ dominance-edges-among g (w .dominance-within) l r);
     }
 
-dominance-edges-length : (g : Graph) → WellFormed g → length (dominanceEdges g) ≡ different (g .dominance)
+dominance-edges-length : (g : Graph) → WellWritten g → length (dominanceEdges g) ≡ different (g .dominance)
 dominance-edges-length g w =
-    let within : Within (g .nodes) (g .dominance) = dominance-within g w in
+    let within : Within (g .nodes) (g .dominance) = w .dominance-within in
     sym (distinct-different (dominanceEdges g) (dominance-edges-distinct g))
     ∙ sym (different-same (g .nodes) (g .dominance) (dominanceEdges g) within (λ l r. sym (dominance-edges-among g within l r)))
 
-pub tidied-well-formed : (g : Graph) → WellFormed g → WellFormed (tidied g)
+pub tidied-well-written : (g : Graph) → WellWritten g → WellWritten (tidied g)
 unfolding tidied
-tidied-well-formed g w =
+tidied-well-written g w =
     let k : Agree g (tidied g) = tidied-agrees g w in
     let once : distinct (reverse (treeEdges g)) ≡ true = distinct-reverse (treeEdges g) (tree-edges-distinct g) in
-    well-formed-agree g (tidied g) k w
+    well-written-agree g (tidied g) k w
     (single-of-distinct (reverse (treeEdges g)) once (λ p q c h i. one-parent (g .tree) p q c (w .one-parent) (k .same-tree p c ∙ h) (k .same-tree q c ∙ i)))
 
 -- the length
@@ -195,7 +198,7 @@ unfolding sum count
 sum-count zero p = refl
 sum-count (suc n) p = rw (sum-count n p)
 
-tree-edges-length : (g : Graph) → WellFormed g → length (treeEdges g) ≡ count (g .nodes) (entered (g .tree))
+tree-edges-length : (g : Graph) → WellWritten g → length (treeEdges g) ≡ count (g .nodes) (entered (g .tree))
 unfolding treeEdges
 tree-edges-length g w =
     let n : ℕ = g .nodes in
@@ -204,32 +207,39 @@ tree-edges-length g w =
     ∙ sum-ext n (λ c. count n (λ p. among t p c)) (λ c. cond (entered t c) 1 0) (λ c _. column-count n t c (w .tree-within) (w .one-parent))
     ∙ sum-count n (entered t)
 
-pub tidy-length : (g : Graph) → WellFormed g → length (tidy g) ≡ 3 + 3 * (count (g .nodes) (entered (g .tree))) + 3 * different (g .dominance)
+pub tidy-length : (g : Graph) → WellWritten g → length (tidy g) ≡ 3 + 3 * (count (g .nodes) (entered (g .tree))) + 3 * different (g .dominance)
 unfolding tidy
 tidy-length g w =
     let trees : length (tidyTree g) ≡ 3 * length (treeEdges g) = ap length (tidy-tree g) ∙ length-triples 2 (treeEdges g) in
     let dominances : length (tidyDominance g) ≡ 3 * length (dominanceEdges g) = ap length (tidy-dominance g) ∙ length-triples 3 (dominanceEdges g) in
     omega (arith, length-append (tidyTree g ++ tidyDominance g) (0 ∷ []), length-append (tidyTree g) (tidyDominance g), tree-edges-length g w, dominance-edges-length g w)
 
--- some node has no parent: the root of node 0's fragment
-few-parents : (g : Graph) → WellFormed g → count (g .nodes) (entered (g .tree)) < g .nodes
+-- some node has no parent: the root of node 0's fragment, which is no added leaf
+few-parents : (g : Graph) → WellWritten g → count (g .nodes) (entered (g .tree)) < g .nodes
+unfolding addedLeaf
 few-parents g w =
-    let top : ℕ = own g 0 in
-    let is-root : root g top ≡ true = own-root g (well-formed-shaped w) 0 (omega (arith, w .some-nodes)) in
-    omega (arith, count-le (g .nodes) (λ _. true), count-grows (g .nodes) (entered (g .tree)) (λ _. true) top (λ k l h. refl) (root-below g top is-root) (root-unentered g top is-root) refl)
+    let v = grown-well-formed g w in
+    let top : ℕ = own (grown g) 0 in
+    let is-root : root (grown g) top ≡ true = own-root (grown g) (well-formed-shaped v) 0 (omega (arith, v .some-nodes)) in
+    let free : entered (grown g .tree) top ≡ false = root-unentered (grown g) top is-root in
+    let node : top < g .nodes =
+    by-bool (ltb top (g .nodes))
+    (λ (l : ltb top (g .nodes) ≡ true). ltb-true top (g .nodes) l)
+    (λ (l : ltb top (g .nodes) ≡ false). absurd (true≢false (sym (entered-new g (g .nodes) top (ltb-false top (g .nodes) l) (root-below (grown g) top is-root)) ∙ free))) in
+    omega (arith, count-le (g .nodes) (λ _. true), count-grows (g .nodes) (entered (g .tree)) (λ _. true) top (λ k l h. refl) node (sym (entered-old g (g .nodes) top node) ∙ free) refl)
 
 -- so many bytes have room for it: 127 tree edges and 255 dominance edges at most
-pub tidy-room : (g : Graph) → WellFormed g → length (tidy g) ≤ 1149
-tidy-room g w = omega (arith, tidy-length g w, few-parents g w, w .few-nodes, w .few-edges)
+pub tidy-room : (g : Graph) → WellWritten g → length (tidy g) ≤ 1149
+tidy-room g w = omega (arith, tidy-length g w, few-parents g w, few-written g w, w .few-edges)
 
 -- "tidying changes no node and no edge"
-pub tidy-accepted : (g : Graph) → WellFormed g → (h : Graph) × (outcome (tidy g) ≡ accepted (content h)) × Agree g h
+pub tidy-accepted : (g : Graph) → WellWritten g → (h : Graph) × (outcome (tidy g) ≡ accepted (content h)) × Agree g h
 tidy-accepted g w =
     let n : ℕ = g .nodes in
     let cs : List EdgeCommand = tidyCommands g in
     let same : spells n cs ≡ tidied g = spells-tidied g in
     let short : length (sheet n cs) ≤ longest = subst (λ (l : List ℕ). length l ≤ longest) (tidy-spells g) (omega (arith, tidy-room g w)) in
-    let r = spells-accepted n cs (subst WellFormed (sym same) (tidied-well-formed g w)) short in
+    let r = spells-accepted n cs (subst WellWritten (sym same) (tidied-well-written g w)) short in
     (r .0, ap outcome (tidy-spells g) ∙ r .1, agree-trans g (tidied g) (r .0) (tidied-agrees g w) (agree-sym (r .0) (tidied g) (subst (Agree (r .0)) same (r .2))))
 
 -- 02, One: "tidying keeps the set of edges", of what the sheet and its tidy sheet write, however often
@@ -240,7 +250,7 @@ tidy-keeps bs s e =
     let g : Graph = s .written in
     let written-so : Graph = spells (g .nodes) (a .commands) in
     let same : spells (g .nodes) (tidyCommands g) ≡ tidied g = spells-tidied g in
-    (a .commands, tidyCommands g, a .bytes, tidy-spells g, subst (Agree written-so) (sym same) (agree-trans written-so g (tidied g) (agree-sym g written-so (a .agrees)) (tidied-agrees g (a .well-formed))))
+    (a .commands, tidyCommands g, a .bytes, tidy-spells g, subst (Agree written-so) (sym same) (agree-trans written-so g (tidied g) (agree-sym g written-so (a .agrees)) (tidied-agrees g (a .well-written))))
 
 -- 02, One: "The tidy sheet has each edge once"
 pub each-edge-once : (g : Graph)
@@ -277,12 +287,12 @@ spelt-length [] = refl
 spelt-length (tree-edge p c ∷ cs) = omega (arith, spelt-length cs)
 spelt-length (dominance-edge l r ∷ cs) = omega (arith, spelt-length cs)
 
-tree-edges-few : (g : Graph) → WellFormed g → count (g .nodes) (entered (g .tree)) ≤ length (g .tree)
+tree-edges-few : (g : Graph) → WellWritten g → count (g .nodes) (entered (g .tree)) ≤ length (g .tree)
 tree-edges-few g w =
     let same : different (g .tree) ≡ different (treeEdges g) = different-same (g .nodes) (g .tree) (treeEdges g) (w .tree-within) (λ p c. sym (tree-edges-among g (w .tree-within) p c)) in
     omega (arith, tree-edges-length g w, distinct-different (treeEdges g) (tree-edges-distinct g), same, different-short (g .tree))
 
-tidy-spelt : (n : ℕ) (cs : List EdgeCommand) → WellFormed (spells n cs) → length (tidy (spells n cs)) ≤ length (sheet n cs)
+tidy-spelt : (n : ℕ) (cs : List EdgeCommand) → WellWritten (spells n cs) → length (tidy (spells n cs)) ≤ length (sheet n cs)
 unfolding spells sheet
 tidy-spelt n cs w =
     let g : Graph = written n [] [] cs in
@@ -296,11 +306,11 @@ tidy-no-longer bs s e =
     let cs : List EdgeCommand = a .commands in
     let same : length (tidy g) ≡ length (tidy (spells n cs)) = ap length (tidy-same g (spells n cs) (a .agrees)) in
     let bytes : length bs ≡ length (sheet n cs) = ap length (a .bytes) in
-    omega (arith, same, bytes, tidy-spelt n cs (a .spelt-well-formed))
+    omega (arith, same, bytes, tidy-spelt n cs (a .spelt-well-written))
 
 -- the tidy sheet of what a sheet writes, accepted
 tidy-again : (bs : List ℕ) (s : Content) → outcome bs ≡ accepted s → (h : Graph) × (outcome (tidy (s .written)) ≡ accepted (content h)) × Agree (s .written) h
-tidy-again bs s e = tidy-accepted (s .written) (accepted-spells bs s e .well-formed)
+tidy-again bs s e = tidy-accepted (s .written) (accepted-spells bs s e .well-written)
 
 pub tidy-twice : (bs : List ℕ) (s t : Content) → outcome bs ≡ accepted s → outcome (tidy (s .written)) ≡ accepted t → tidy (t .written) ≡ tidy (s .written)
 tidy-twice bs s t e f =

@@ -54,7 +54,10 @@ slice-write-out : tie.Need-slice-write-out
 slice-write-out c = search needs
 
 cast-out : tie.Need-cast-out
-cast-out c = search needs
+cast-out c =
+    let s = c .before .before .before .before .before .before in
+    let a = s .args in
+    omega (arith, held-few (a .n) (now (a .parent)) (now (a .low)) (now (a .high)) (a .edges) (s .pre))
 
 slice-write-out-2 : tie.Need-slice-write-out-2
 slice-write-out-2 c = simp length-set (omega arith)

@@ -38,8 +38,8 @@ slice-aggregate-print-bytes c = sym (length-take-le _ _ (omega (arith, c .before
 print-bytes-requires : tie.Need-print-bytes-requires
 print-bytes-requires c κs = omega (arith, slice-aggregate-print-bytes c)
 
-print-table-requires : tie.Need-print-table-requires
-print-table-requires c κs = search needs
+print-fragments-requires : tie.Need-print-fragments-requires
+print-fragments-requires c κs = search needs
 
 returns : tie.Need-returns
 returns c = search needs
@@ -65,7 +65,7 @@ print-sheet-spec =
     array-share-prefix-out
     slice-aggregate-print-bytes
     print-bytes-requires
-    print-table-requires
+    print-fragments-requires
     returns
     returns-2
     returns-3)

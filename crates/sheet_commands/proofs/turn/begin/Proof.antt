@@ -20,13 +20,13 @@ cast-n : tie.Need-cast-n
 cast-n c = search needs
 
 returns-2 : tie.Need-returns-2
-returns-2 c = let b = c .before .before .step .given .0 .0 in rw (c .before .before .step .given .1, lt-leb 2 b (omega arith))
+returns-2 c = let b = c .before .before .step .given .0 .0 in rw (c .before .before .step .given .1, lt-leb 1 b (omega arith))
 
 returns-3 : tie.Need-returns-3
 returns-3 c = let b = c .before .before .before .step .given .0 .0 in rw (c .before .before .before .step .given .1, lt-leb b 128 (omega arith), and-false)
 
 returns-4 : tie.Need-returns-4
-returns-4 c = let b = c .before .before .before .step .given .0 .0 in rw (c .before .before .before .step .given .1, le-leb 2 b (omega arith), le-leb b 128 (omega arith))
+returns-4 c = let b = c .before .before .before .step .given .0 .0 in rw (c .before .before .before .step .given .1, le-leb 1 b (omega arith), le-leb b 128 (omega arith))
 
 pub begin-spec : {M : Type 1} → statement M
 begin-spec =

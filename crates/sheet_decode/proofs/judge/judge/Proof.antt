@@ -1,10 +1,9 @@
-use mathlib.Core.Path.{sym, ap, _∙_}
-use mathlib.Core.Bool.{not}
-use Rattle.base_finite.specs.Below.{any}
-use Rattle.base_finite.proofs.Laws.{not-not}
-use Rattle.base_nodeset.specs.Set.{mem}
+use mathlib.Core.Path.{sym, _∙_}
+use native.Mathlib.Omega.{arith}
 use denote.Ref.{now}
-use Rattle.sheet_decode.proofs.Judges.{graphOf, cyclic-held, bare-held, astray-held, whole-tree, whole-bare, whole-ends, whole-accepted}
+use Rattle.base_finite.proofs.Laws.{count-le}
+use Rattle.base_nodeset.specs.Set.{mem}
+use Rattle.sheet_decode.proofs.Judges.{graphOf, cyclic-held, overgrown-held, not-overgrown-held, astray-held, whole-tree, whole-overgrown, whole-ends, whole-accepted}
 use borrow.Author.Needs.{needs}
 use Rattle.sheet_decode.proofs.judge.judge.Statement.{statement}
 use Rattle.sheet_decode.proofs.judge.judge.Tie as tie
@@ -27,40 +26,56 @@ root-nodes-requires c κs = search needs
 difference-requires : tie.Need-difference-requires
 difference-requires c κs = search needs
 
-is-empty-requires : tie.Need-is-empty-requires
-is-empty-requires c κs = search needs
+count-requires : tie.Need-count-requires
+count-requires c κs = search needs
+
+add-if2 : tie.Need-add-if2
+add-if2 c =
+    let few = c .before .before .before .before .before .before .before .before .before .pre .0 .few in
+    omega (arith, few, c .count .ensures, count-le 128 (mem (c .before .difference .result)))
 
 returns-2 : tie.Need-returns-2
 returns-2 c t d edges h =
-    let s = c .before .before .before .before .before .before .before .before .before .before in
+    let k = c .before in
+    let both = k .before in
+    let roots = both .before in
+    let inner = roots .before in
+    let s = inner .before .before .before .before .before .before in
     let a = s .args in
-    let e = c .before in
-    whole-bare (graphOf (a .n) t d)
-    (sym (cyclic-held (a .n) t d (now (a .parent)) (now (a .low)) (now (a .high)) edges (s .pre .0 .few) h) ∙ sym (c .before .before .before .before .before .before .cyclic .ensures) ∙ c .before .before .before .before .before .if1 .left)
-    (sym (bare-held (a .n) t d (now (a .parent)) (now (a .low)) (now (a .high)) edges (s .pre .0 .few) h (e .before .before .before .inner-nodes .result) (e .before .before .root-nodes .result) (e .before .before .before .inner-nodes .ensures) (e .before .before .root-nodes .ensures) (e .before .difference .result) (e .before .difference .ensures)) ∙ sym (not-not (any 128 (mem (e .before .difference .result)))) ∙ sym (ap not (e .is-empty .ensures)) ∙ c .if2 .taken)
+    let no-cycle = sym (cyclic-held (a .n) t d (now (a .parent)) (now (a .low)) (now (a .high)) edges (s .pre .0 .few) h) ∙ sym (inner .before .before .cyclic .ensures) ∙ inner .before .if1 .left in
+    whole-overgrown (graphOf (a .n) t d) no-cycle (overgrown-held (a .n) t d (now (a .parent)) (now (a .low)) (now (a .high)) edges (s .pre .0 .few) h (inner .inner-nodes .result) (roots .root-nodes .result) (both .difference .result) (inner .inner-nodes .ensures) (roots .root-nodes .ensures) (both .difference .ensures) (k .count .result) (k .count .ensures) (omega (arith, c .if2 .taken)))
+
+union-requires : tie.Need-union-requires
+union-requires c κs = search needs
 
 astray-requires : tie.Need-astray-requires
 astray-requires c κs = search needs
 
 returns-3 : tie.Need-returns-3
 returns-3 c t d edges h =
-    let s = c .before .before .before .before .before .before .before .before .before .before .before .before in
+    let k = c .before .before .before .before in
+    let both = k .before in
+    let roots = both .before in
+    let inner = roots .before in
+    let s = inner .before .before .before .before .before .before in
     let a = s .args in
-    let e = c .before .before .before in
-    whole-ends (graphOf (a .n) t d)
-    (sym (cyclic-held (a .n) t d (now (a .parent)) (now (a .low)) (now (a .high)) edges (s .pre .0 .few) h) ∙ sym (c .before .before .before .before .before .before .before .before .cyclic .ensures) ∙ c .before .before .before .before .before .before .before .if1 .left)
-    (sym (bare-held (a .n) t d (now (a .parent)) (now (a .low)) (now (a .high)) edges (s .pre .0 .few) h (e .before .before .before .inner-nodes .result) (e .before .before .root-nodes .result) (e .before .before .before .inner-nodes .ensures) (e .before .before .root-nodes .ensures) (e .before .difference .result) (e .before .difference .ensures)) ∙ sym (not-not (any 128 (mem (e .before .difference .result)))) ∙ sym (ap not (e .is-empty .ensures)) ∙ c .before .before .if2 .left)
-    (sym (astray-held (a .n) t d (now (a .parent)) (now (a .low)) (now (a .high)) edges (s .pre .0 .few) h (e .before .before .before .inner-nodes .result) (e .before .before .root-nodes .result) (e .before .before .before .inner-nodes .ensures) (e .before .before .root-nodes .ensures)) ∙ sym (c .before .astray .ensures) ∙ c .if3 .taken)
+    let no-cycle = sym (cyclic-held (a .n) t d (now (a .parent)) (now (a .low)) (now (a .high)) edges (s .pre .0 .few) h) ∙ sym (inner .before .before .cyclic .ensures) ∙ inner .before .if1 .left in
+    let found = astray-held (a .n) t d (now (a .parent)) (now (a .low)) (now (a .high)) edges (s .pre .0 .few) h (inner .inner-nodes .result) (roots .root-nodes .result) (both .difference .result) (inner .inner-nodes .ensures) (roots .root-nodes .ensures) (both .difference .ensures) (c .before .before .union .result) (c .before .before .union .ensures) in
+    let fits = not-overgrown-held (a .n) t d (now (a .parent)) (now (a .low)) (now (a .high)) edges (s .pre .0 .few) h (inner .inner-nodes .result) (roots .root-nodes .result) (both .difference .result) (inner .inner-nodes .ensures) (roots .root-nodes .ensures) (both .difference .ensures) (k .count .result) (k .count .ensures) (omega (arith, c .before .before .before .if2 .left)) in
+    whole-ends (graphOf (a .n) t d) no-cycle fits (sym found ∙ sym (c .before .astray .ensures) ∙ c .if3 .taken)
 
 returns-4 : tie.Need-returns-4
 returns-4 c t d edges h =
-    let s = c .before .before .before .before .before .before .before .before .before .before .before .before in
+    let k = c .before .before .before .before in
+    let both = k .before in
+    let roots = both .before in
+    let inner = roots .before in
+    let s = inner .before .before .before .before .before .before in
     let a = s .args in
-    let e = c .before .before .before in
-    whole-accepted (graphOf (a .n) t d)
-    (sym (cyclic-held (a .n) t d (now (a .parent)) (now (a .low)) (now (a .high)) edges (s .pre .0 .few) h) ∙ sym (c .before .before .before .before .before .before .before .before .cyclic .ensures) ∙ c .before .before .before .before .before .before .before .if1 .left)
-    (sym (bare-held (a .n) t d (now (a .parent)) (now (a .low)) (now (a .high)) edges (s .pre .0 .few) h (e .before .before .before .inner-nodes .result) (e .before .before .root-nodes .result) (e .before .before .before .inner-nodes .ensures) (e .before .before .root-nodes .ensures) (e .before .difference .result) (e .before .difference .ensures)) ∙ sym (not-not (any 128 (mem (e .before .difference .result)))) ∙ sym (ap not (e .is-empty .ensures)) ∙ c .before .before .if2 .left)
-    (sym (astray-held (a .n) t d (now (a .parent)) (now (a .low)) (now (a .high)) edges (s .pre .0 .few) h (e .before .before .before .inner-nodes .result) (e .before .before .root-nodes .result) (e .before .before .before .inner-nodes .ensures) (e .before .before .root-nodes .ensures)) ∙ sym (c .before .astray .ensures) ∙ c .if3 .left)
+    let no-cycle = sym (cyclic-held (a .n) t d (now (a .parent)) (now (a .low)) (now (a .high)) edges (s .pre .0 .few) h) ∙ sym (inner .before .before .cyclic .ensures) ∙ inner .before .if1 .left in
+    let found = astray-held (a .n) t d (now (a .parent)) (now (a .low)) (now (a .high)) edges (s .pre .0 .few) h (inner .inner-nodes .result) (roots .root-nodes .result) (both .difference .result) (inner .inner-nodes .ensures) (roots .root-nodes .ensures) (both .difference .ensures) (c .before .before .union .result) (c .before .before .union .ensures) in
+    let fits = not-overgrown-held (a .n) t d (now (a .parent)) (now (a .low)) (now (a .high)) edges (s .pre .0 .few) h (inner .inner-nodes .result) (roots .root-nodes .result) (both .difference .result) (inner .inner-nodes .ensures) (roots .root-nodes .ensures) (both .difference .ensures) (k .count .result) (k .count .ensures) (omega (arith, c .before .before .before .if2 .left)) in
+    whole-accepted (graphOf (a .n) t d) no-cycle fits (sym found ∙ sym (c .before .astray .ensures) ∙ c .if3 .left)
 
 pub judge-spec : {M : Type 1} → statement M
 judge-spec =
@@ -71,8 +86,10 @@ judge-spec =
     inner-nodes-requires
     root-nodes-requires
     difference-requires
-    is-empty-requires
+    count-requires
+    add-if2
     returns-2
+    union-requires
     astray-requires
     returns-3
     returns-4)

@@ -1,46 +1,36 @@
-use mathlib.Core.Path.{refl}
-use Rattle.sheet_decode.proofs.Whole.{blank, reads-refused, reads-accepted}
+-- The refusal of what is written, or that graph grown.
+use Rattle.sheet_decode.proofs.Answers.{growable, grown-read, refused-read}
+use denote.Ref.{now}
+use Rattle.format.specs.Sheet.{outcome}
 use borrow.Author.Needs.{needs}
 use Rattle.sheet_decode.proofs.read.read.Statement.{statement}
 use Rattle.sheet_decode.proofs.read.read.Tie as tie
 
-slice-aggregate-decode-into : tie.Need-slice-aggregate-decode-into
-slice-aggregate-decode-into c = search needs
+read-written-requires : tie.Need-read-written-requires
+read-written-requires c κs = search needs
 
-slice-aggregate-decode-into-2 : tie.Need-slice-aggregate-decode-into-2
-slice-aggregate-decode-into-2 c = search needs
+enum-told : tie.Need-enum-told
+enum-told c = search needs
 
-slice-aggregate-decode-into-3 : tie.Need-slice-aggregate-decode-into-3
-slice-aggregate-decode-into-3 c = search needs
+enum-told-2 : tie.Need-enum-told-2
+enum-told-2 c = search needs
 
-decode-into-requires : tie.Need-decode-into-requires
-decode-into-requires c κs = blank 128 refl
-
-enum-known-why : tie.Need-enum-known-why
-enum-known-why c = search needs
-
-enum-known-n : tie.Need-enum-known-n
-enum-known-n c = search needs
+grown-requires : tie.Need-grown-requires
+grown-requires c κs =
+    let r = c .before .before .before .read-written in
+    growable (now (c .before .before .before .before .before .args .sheet)) (r .result) (r .ensures) (c .enum-told2 .given .1)
 
 returns : tie.Need-returns
 returns c =
-    let d = c .before .before .before .before .before .before .decode-into in
-    reads-refused _ (d .result) _ _ _ _ (c .before .why .given .0 .0) (d .ensures) (c .before .why .given .1) refl
+    let r = c .before .before .before .read-written in
+    refused-read (outcome (now (c .before .before .before .before .before .args .sheet))) (r .result) _ (r .ensures) (c .enum-told .given .1)
 
 returns-2 : tie.Need-returns-2
 returns-2 c =
-    let d = c .before .before .before .before .before .before .decode-into in
-    reads-accepted _ (d .result) _ _ _ _ (c .before .n .given .0 .0) (c .before .n .given .0 .1 .0) (d .ensures) (c .before .n .given .1) refl refl refl refl refl refl
+    let r = c .before .before .before .before .read-written in
+    grown-read (now (c .before .before .before .before .before .before .args .sheet)) (r .result) (r .ensures) (c .before .enum-told2 .given .1) (c .grown .result) (c .grown .ensures)
 
 pub read-spec : {M : Type 1} → statement M
 read-spec =
     tie.close
-    (tie.spec
-    slice-aggregate-decode-into
-    slice-aggregate-decode-into-2
-    slice-aggregate-decode-into-3
-    decode-into-requires
-    enum-known-why
-    enum-known-n
-    returns
-    returns-2)
+    (tie.spec read-written-requires enum-told enum-told-2 grown-requires returns returns-2)

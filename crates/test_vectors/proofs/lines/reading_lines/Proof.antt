@@ -30,8 +30,8 @@ decimal-requires c κs = search needs
 slice-aggregate-placing-line : tie.Need-slice-aggregate-placing-line Inv-loop μ-loop
 slice-aggregate-placing-line c = search needs
 
-byte-requires : tie.Need-byte-requires Inv-loop μ-loop
-byte-requires c κs = search needs
+nodes-of-requires : tie.Need-nodes-of-requires Inv-loop μ-loop
+nodes-of-requires c κs = search needs
 
 placing-line-requires : tie.Need-placing-line-requires Inv-loop μ-loop
 placing-line-requires c κs = search needs
@@ -61,7 +61,7 @@ reading-lines-spec =
     plus-requires
     decimal-requires
     slice-aggregate-placing-line
-    byte-requires
+    nodes-of-requires
     placing-line-requires
     add-number
     loop-less
