@@ -3,7 +3,7 @@
  *
  * A sheet is a run of bytes:
  *
- *     0x01 n      there are n nodes, 2 to 128, numbered from 0; comes first, and once
+ *     0x01 w      there are w nodes, 1 to 128, numbered from 0; comes first, and once
  *     0x02 p c    a tree edge from parent p to child c
  *     0x03 l r    a dominance edge from leaf l to root r; at most 255 different ones
  *     0x00        the end, the last byte
@@ -12,15 +12,20 @@
  * nodes each, the fragments. A dominance edge goes from a leaf to a root, of one fragment or two;
  * one that is repeated is read as a single edge. A sheet has at most 2,048 bytes.
  *
+ * A node without tree edges, such as a word that stands alone, becomes a fragment whose root it
+ * is, with one leaf added. Added leaves are numbered from w upward, by ascending node, and no
+ * command can name them. With them the sheet has n nodes, at most 128, as bixtogan_nodes tells;
+ * where each node has a tree edge, n is w.
+ *
  * A placing is n bytes, one for each node: of a root the leaf that it hangs under, and
  * BIXTOGAN_TOP of a root on top and of a node that is no root. Readings are placings, and so are
  * solved forms and configurations. Readings are numbered from 1.
  *
- * Every function returns BIXTOGAN_DONE, which is 0, or the number of a refusal, 1 to 6 or 8 to 12.
- * Each tests its own input, so any bytes may be handed in. The sheet's refusals (1 to 6, 8 and 12)
- * come first: 12 before all others, then the fault that is the earliest in its bytes; a cycle of
- * tree edges, 5 and 6 are looked for after the last command. The other numbers come in the order
- * in which the function lists them.
+ * Every function returns BIXTOGAN_DONE, which is 0, or the number of a refusal, 1 to 4, 6 or 8 to
+ * 13. Each tests its own input, so any bytes may be handed in. The sheet's refusals (1 to 4, 6, 8,
+ * 12 and 13) come first: 12 before all others, then the fault that is the earliest in its bytes; a
+ * cycle of tree edges, 13 and 6 are looked for after the last command, in this order. The other
+ * numbers come in the order in which the function lists them.
  *
  * A refusal leaves all memory of the caller as it was, with one exception: where those
  * for readings and for a configuration answer that there is no reading (9), they write a cycle that
@@ -44,7 +49,7 @@ extern "C" {
 #endif
 
 /* Limits. */
-#define BIXTOGAN_NODES_MAX 128           /* nodes of a sheet */
+#define BIXTOGAN_NODES_MAX 128           /* nodes of a sheet, added leaves counted */
 #define BIXTOGAN_DOMINANCE_EDGES_MAX 255 /* different dominance edges of a sheet */
 #define BIXTOGAN_SHEET_MAX 2048          /* bytes of a sheet */
 #define BIXTOGAN_READINGS_MAX 65535      /* the highest exact count, and the highest number */
@@ -64,14 +69,15 @@ extern "C" {
 /* What a function returns: an answer, .. */
 #define BIXTOGAN_DONE 0
 /* .. or that the sheet is not well-formed, .. */
-#define BIXTOGAN_MISSING 1   /* a needed byte is missing */
-#define BIXTOGAN_COMMAND 2   /* a command is unknown or out of place, or a byte follows the end */
-#define BIXTOGAN_RANGE 3     /* n is outside 2 to 128, or an operand is n or more */
-#define BIXTOGAN_TREE 4      /* an edge from a node to itself, a second parent, or a cycle */
-#define BIXTOGAN_BARE 5      /* a node has no tree edge */
-#define BIXTOGAN_ENDS 6      /* a dominance edge does not go from a leaf to a root */
-#define BIXTOGAN_TOO_MANY 8  /* a dominance edge would be the 256th different one */
-#define BIXTOGAN_TOO_LONG 12 /* the sheet has more than 2,048 bytes */
+#define BIXTOGAN_MISSING 1    /* a needed byte is missing */
+#define BIXTOGAN_COMMAND 2    /* a command is unknown or out of place, or a byte follows the end */
+#define BIXTOGAN_RANGE 3      /* w is outside 1 to 128, or an operand is w or more */
+#define BIXTOGAN_TREE 4       /* an edge from a node to itself, a second parent, or a cycle */
+#define BIXTOGAN_ENDS 6       /* a dominance edge does not go from a leaf to a root */
+#define BIXTOGAN_TOO_MANY 8   /* a dominance edge would be the 256th different one */
+#define BIXTOGAN_TOO_LONG 12  /* the sheet has more than 2,048 bytes */
+#define BIXTOGAN_OVERGROWN 13 /* with a leaf added for each node without a tree edge, there are
+                                 more than 128 nodes */
 /* .. or that it has no solved form, and so no reading, .. */
 #define BIXTOGAN_NO_READING 9
 /* .. or that the call asks what cannot be. */
@@ -82,6 +88,14 @@ extern "C" {
 #define BIXTOGAN_SOLVED_FORM 1
 #define BIXTOGAN_CONFIGURATION 2
 #define BIXTOGAN_READING 4
+
+/*
+ * How many nodes there are, added leaves counted. *nodes becomes n, 2 to 128: so many bytes has a
+ * placing.
+ *
+ * Refusals: the sheet's.
+ */
+uint8_t bixtogan_nodes(const uint8_t *sheet, size_t sheet_length, uint64_t *nodes);
 
 /*
  * How many readings the sheet has. *readings becomes 1 to 65,535, or BIXTOGAN_MORE.
@@ -138,8 +152,9 @@ uint8_t bixtogan_drawing(const uint8_t *sheet, size_t sheet_length, uint64_t num
 
 /*
  * The tidy sheet of the same nodes and edges: tree edges by child, then dominance edges by leaf
- * and root, each edge once. It fills the first bytes of out, and *length becomes how many. out has
- * at least as many: the sheet's own length is enough, and so is BIXTOGAN_TIDY_ROOM.
+ * and root, each edge once. No added leaf is written. It fills the first bytes of out, and *length
+ * becomes how many. out has at least as many: the sheet's own length is enough, and so is
+ * BIXTOGAN_TIDY_ROOM.
  *
  * Refusals: the sheet's, 10.
  */

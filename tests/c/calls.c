@@ -153,7 +153,51 @@ static size_t with_edges(int edges, uint8_t *sheet)
     return at;
 }
 
+/* So many nodes and these edges: `edges` of them, three bytes each. */
+static size_t with_nodes(int nodes, const uint8_t *commands, int edges, uint8_t *sheet)
+{
+    size_t length = 3 * (size_t)edges;
+
+    sheet[0] = 1;
+    sheet[1] = (uint8_t)nodes;
+    memcpy(sheet + 2, commands, length);
+    sheet[2 + length] = 0;
+    return 3 + length;
+}
+
 /* The calls. */
+
+static void node_numbers(void)
+{
+    static const uint8_t pair[] = {2, 0, 1};
+    static const struct {
+        const char *what;
+        int nodes, edges;
+        uint64_t grown;
+    } cases[] = {
+        {"1 node alone", 1, 0, 2},
+        {"2 nodes alone", 2, 0, 4},
+        {"a fragment", 2, 1, 2},
+        {"a fragment and a node alone", 3, 1, 4},
+        {"64 nodes alone", 64, 0, 128},
+        {"a fragment and 63 nodes alone", 65, 1, 128},
+    };
+    uint8_t sheet[16];
+    size_t i, length;
+
+    lend();
+    expect(bixtogan_nodes(chain, sizeof chain, &value) == BIXTOGAN_DONE && value == 12,
+           "nodes of the chain of two");
+    lend();
+    expect(bixtogan_nodes(loop, sizeof loop, &value) == BIXTOGAN_DONE && value == 2,
+           "nodes where no reading is");
+    for (i = 0; i < LENGTH(cases); i++) {
+        length = with_nodes(cases[i].nodes, pair, cases[i].edges, sheet);
+        lend();
+        expect(bixtogan_nodes(sheet, length, &value) == BIXTOGAN_DONE && value == cases[i].grown,
+               cases[i].what);
+    }
+}
 
 static void counts(void)
 {
@@ -350,6 +394,141 @@ static void repeats(void)
            "tidying 255 dominance edges and a repeat");
 }
 
+/* A sheet with one reading: its number of nodes, its drawing, reading and configuration. */
+static void one_reading(const uint8_t *sheet, size_t length, size_t nodes, const char *text,
+                        const uint8_t *placings)
+{
+    uint64_t place = 0;
+
+    lend();
+    expect(bixtogan_nodes(sheet, length, &value) == BIXTOGAN_DONE && value == nodes, text);
+    lend();
+    expect(bixtogan_count(sheet, length, &value) == BIXTOGAN_DONE && value == 1, text);
+    lend();
+    expect(bixtogan_reading(sheet, length, &place, out, 2 * nodes - 1, &value)
+                   == BIXTOGAN_SMALL_BUFFER
+               && place == 0 && wrote_nothing(),
+           text);
+    expect(bixtogan_reading(sheet, length, &place, out, 2 * nodes, &value) == BIXTOGAN_DONE
+               && place == 1 && wrote(placings, nodes) && value == OLD_VALUE,
+           text);
+    lend();
+    place = 0;
+    expect(bixtogan_readings(sheet, length, &place, out, 2 * nodes - 1, &value)
+                   == BIXTOGAN_SMALL_BUFFER
+               && place == 0 && wrote_nothing(),
+           text);
+    expect(bixtogan_readings(sheet, length, &place, out, 2 * nodes, &value) == BIXTOGAN_DONE
+               && place == 1 && wrote(placings, nodes),
+           text);
+    lend();
+    expect(bixtogan_configuration(sheet, length, out, 2 * nodes - 1, &value)
+                   == BIXTOGAN_SMALL_BUFFER
+               && wrote_nothing(),
+           text);
+    expect(bixtogan_configuration(sheet, length, out, 2 * nodes, &value) == BIXTOGAN_DONE
+               && wrote(placings + nodes, nodes),
+           text);
+    lend();
+    expect(bixtogan_drawing(sheet, length, 1, out, 1024, &value) == BIXTOGAN_DONE
+               && value == strlen(text) && wrote((const uint8_t *)text, strlen(text)),
+           text);
+    lend();
+    expect(bixtogan_check_placing(sheet, length, placings, nodes - 1, &answer)
+                   == BIXTOGAN_SMALL_BUFFER
+               && wrote_nothing(),
+           text);
+    expect(bixtogan_check_placing(sheet, length, placings, nodes, &answer) == BIXTOGAN_DONE
+               && (answer & BIXTOGAN_READING) != 0,
+           text);
+    expect(bixtogan_check_placing(sheet, length, placings + nodes, nodes, &answer) == BIXTOGAN_DONE
+               && (answer & BIXTOGAN_CONFIGURATION) != 0,
+           text);
+    /* All these sheets are tidy: no added leaf is written. */
+    lend();
+    expect(bixtogan_tidy(sheet, length, out, length, &value) == BIXTOGAN_DONE && value == length
+               && wrote(sheet, length),
+           text);
+}
+
+/* A node without tree edges has a leaf added. */
+static void one_word_fragments(void)
+{
+    static const uint8_t one[] = {1, 1, 0};
+    static const uint8_t two[] = {1, 2, 0};
+    static const uint8_t written[] = {1, 4, 2, 0, 2, 2, 1, 3, 0};
+    static const uint8_t below[] = {1, 4, 2, 0, 1, 3, 1, 2, 3, 1, 3, 0};
+    static const uint8_t flat[8] = {TOP, TOP, TOP, TOP, TOP, TOP, TOP, TOP};
+    static const uint8_t placings[12] = {
+        TOP, TOP, 1, 1, TOP, TOP,
+        TOP, TOP, 1, 4, TOP, TOP,
+    };
+    static const uint8_t records[9] = {0, 1, 1, 2, 4, 1, 3, 5, 1};
+    static const uint8_t fork[] = {1, 4, 2, 0, 1, 2, 0, 2, 3, 1, 3, 3, 2, 3, 0};
+    static const uint8_t cycle[8] = {0, 2, 1, 3, 3, 3, 2, 2};
+    static const uint8_t most[] = {1, 64, 0};
+    uint64_t place = 0;
+
+    lend();
+    expect(bixtogan_count(most, sizeof most, &value) == BIXTOGAN_DONE && value == 1,
+           "count of 64 nodes alone");
+    one_reading(one, sizeof one, 2, "0(1)", flat);
+    one_reading(two, sizeof two, 4, "0(2);1(3)", flat);
+    one_reading(written, sizeof written, 4, "0(2);1(3)", flat);
+    one_reading(below, sizeof below, 6, "0(1[2(4);3(5)])", placings);
+    lend();
+    expect(bixtogan_fragments(one, sizeof one, out, 3, &value) == BIXTOGAN_DONE && value == 1
+               && wrote(records, 3),
+           "fragment table of 1 node alone");
+    lend();
+    expect(bixtogan_fragments(below, sizeof below, out, 9, &value) == BIXTOGAN_DONE && value == 3
+               && wrote(records, 9),
+           "fragment table with added leaves");
+    lend();
+    expect(bixtogan_fragments(below, sizeof below, out, 8, &value) == BIXTOGAN_SMALL_BUFFER
+               && wrote_nothing(),
+           "fragment table with added leaves into a small buffer");
+    /* Five nodes with the added leaf, so ten bytes, though four are written. */
+    expect(bixtogan_reading(fork, sizeof fork, &place, out, 9, &value) == BIXTOGAN_SMALL_BUFFER
+               && wrote_nothing(),
+           "no reading of a node alone, in a small buffer");
+    expect(bixtogan_reading(fork, sizeof fork, &place, out, 10, &value) == BIXTOGAN_NO_READING
+               && place == 0 && value == 4 && unwritten_past(8),
+           "no reading of a node alone");
+    expect(bixtogan_check_cycle(fork, sizeof fork, out, 8, &answer) == BIXTOGAN_DONE && answer == 1,
+           "the cycle of a reading of a node alone");
+    lend();
+    expect(bixtogan_check_cycle(fork, sizeof fork, cycle, 8, &answer) == BIXTOGAN_DONE
+               && answer == 1,
+           "check of a cycle through a node alone");
+}
+
+/* The chain of two without its last node, which is then added. */
+static void chain_of_two_grown(void)
+{
+    static const char text[] = "0(1[6(7)],2[3(4[8(9)],5[10(11)])])";
+    static const uint8_t both[24] = {
+        TOP, TOP, TOP, 2, TOP, TOP, 1, TOP, 4, TOP, 5, TOP,
+        4, TOP, TOP, TOP, TOP, TOP, 1, TOP, 2, TOP, 5, TOP,
+    };
+    static const uint8_t sheet[] = {
+        1, 11,
+        2, 0, 1,  2, 0, 2,  2, 3, 4,  2, 3, 5,  2, 6, 7,  2, 8, 9,
+        3, 1, 6,  3, 2, 8,  3, 4, 8,  3, 5, 10,
+        0,
+    };
+    uint64_t place = 0;
+
+    lend();
+    expect(bixtogan_readings(sheet, sizeof sheet, &place, out, 24, &value) == BIXTOGAN_DONE
+               && place == 2 && wrote(both, 24),
+           "readings of the chain of two, a leaf added");
+    lend();
+    expect(bixtogan_drawing(sheet, sizeof sheet, 1, out, 1024, &value) == BIXTOGAN_DONE
+               && value == strlen(text) && wrote((const uint8_t *)text, strlen(text)),
+           "drawing of the chain of two, a leaf added");
+}
+
 static void tables(void)
 {
     static const uint8_t records[15] = {0, 1, 2, 3, 4, 2, 6, 7, 1, 8, 9, 1, 10, 11, 1};
@@ -419,7 +598,8 @@ static void refused_by_all(const uint8_t *sheet, size_t length, int number, cons
     uint64_t place = 5;
 
     lend();
-    expect(bixtogan_count(sheet, length, &value) == number
+    expect(bixtogan_nodes(sheet, length, &value) == number
+               && bixtogan_count(sheet, length, &value) == number
                && bixtogan_reading(sheet, length, &place, out, ROOM, &value) == number
                && bixtogan_readings(sheet, length, &place, out, ROOM, &value) == number
                && bixtogan_configuration(sheet, length, out, ROOM, &value) == number
@@ -444,11 +624,20 @@ static void refusals(void)
         {"no end", BIXTOGAN_MISSING, 2, {1, 128}},
         {"an unknown command", BIXTOGAN_COMMAND, 1, {5}},
         {"a byte after the end", BIXTOGAN_COMMAND, 7, {1, 2, 2, 0, 1, 0, 0}},
-        {"1 node", BIXTOGAN_RANGE, 2, {1, 1}},
+        {"1 node and no end", BIXTOGAN_MISSING, 2, {1, 1}},
+        {"no nodes", BIXTOGAN_RANGE, 3, {1, 0, 0}},
         {"129 nodes", BIXTOGAN_RANGE, 2, {1, 129}},
         {"a tree edge from a node to itself", BIXTOGAN_TREE, 6, {1, 2, 2, 0, 0, 0}},
         {"tree edges in a cycle", BIXTOGAN_TREE, 9, {1, 2, 2, 0, 1, 2, 1, 0, 0}},
-        {"nodes without a tree edge", BIXTOGAN_BARE, 3, {1, 2, 0}},
+        {"tree edges in a cycle and 65 nodes alone", BIXTOGAN_TREE, 9,
+         {1, 67, 2, 0, 1, 2, 1, 0, 0}},
+        {"65 nodes alone", BIXTOGAN_OVERGROWN, 3, {1, 65, 0}},
+        {"3 nodes in a fragment and 63 alone", BIXTOGAN_OVERGROWN, 9,
+         {1, 66, 2, 0, 1, 2, 0, 2, 0}},
+        {"65 nodes alone, a dominance edge from one", BIXTOGAN_OVERGROWN, 6, {1, 65, 3, 0, 0, 0}},
+        {"64 nodes alone, a dominance edge from one", BIXTOGAN_ENDS, 6, {1, 64, 3, 0, 0, 0}},
+        {"a dominance edge from a node alone", BIXTOGAN_ENDS, 9, {1, 3, 2, 0, 1, 3, 2, 0, 0}},
+        {"a dominance edge from an added leaf", BIXTOGAN_RANGE, 9, {1, 3, 2, 0, 1, 3, 3, 0, 0}},
         {"a dominance edge from a root", BIXTOGAN_ENDS, 9, {1, 2, 2, 0, 1, 3, 0, 0, 0}},
         {"a tree edge twice", BIXTOGAN_TREE, 12, {1, 4, 2, 0, 1, 2, 0, 1, 2, 2, 3, 0}},
         {"a dominance edge from a root twice", BIXTOGAN_ENDS, 15,
@@ -472,6 +661,7 @@ static void refusals(void)
 
 int main(void)
 {
+    node_numbers();
     counts();
     readings();
     stretches();
@@ -479,6 +669,8 @@ int main(void)
     drawings();
     tidied();
     repeats();
+    one_word_fragments();
+    chain_of_two_grown();
     tables();
     cycles();
     placings();

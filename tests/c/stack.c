@@ -102,6 +102,15 @@ static void square(int edges)
     end();
 }
 
+/* 64 nodes alone, each with a leaf added. */
+static void words(void)
+{
+    last->bytes[0] = 1;
+    last->bytes[1] = BIXTOGAN_NODES_MAX / 2;
+    last->length = 2;
+    end();
+}
+
 static void read_sheet(const char *name)
 {
     FILE *file = fopen(name, "rb");
@@ -118,7 +127,7 @@ static void read_sheet(const char *name)
 /* The calls. Nothing large lies on the stack here. */
 
 static uint8_t out[ROOM];
-static uint64_t value;
+static uint64_t value, nodes;
 static uint8_t answer;
 
 /* What a call that gives a placing wrote: the cycle that a 9 brings, or the kind of placing. */
@@ -129,7 +138,7 @@ static void confirm(const uint8_t *sheet, size_t length, int number, int kind, c
                    && answer == 1,
                what);
     else
-        expect(bixtogan_check_placing(sheet, length, out, sheet[1], &answer) == BIXTOGAN_DONE
+        expect(bixtogan_check_placing(sheet, length, out, nodes, &answer) == BIXTOGAN_DONE
                    && (answer & kind) != 0,
                what);
 }
@@ -140,6 +149,7 @@ static void answers(const uint8_t *sheet, size_t length)
     uint64_t place = 0;
 
     expect(number == BIXTOGAN_DONE || number == BIXTOGAN_NO_READING, "count");
+    expect(bixtogan_nodes(sheet, length, &nodes) == BIXTOGAN_DONE, "nodes");
     expect(bixtogan_reading(sheet, length, &place, out, ROOM, &value) == number, "reading");
     confirm(sheet, length, number, BIXTOGAN_READING, "check of a reading or its cycle");
     place = 0;
@@ -183,6 +193,8 @@ static void *run(void *unused)
         refusals(sheet->bytes, cut, ROOM, BIXTOGAN_MISSING, "a sheet cut short");
         expect(bixtogan_count(sheet->bytes, cut, &value) == BIXTOGAN_MISSING,
                "count of a sheet cut short");
+        expect(bixtogan_nodes(sheet->bytes, cut, &value) == BIXTOGAN_MISSING,
+               "nodes of a sheet cut short");
         expect(bixtogan_check_cycle(sheet->bytes, cut, out, 4, &answer) == BIXTOGAN_MISSING,
                "check of a cycle of a sheet cut short");
     }
@@ -196,12 +208,13 @@ int main(int argc, char **argv)
     uint8_t *memory, *stack;
     int i, unused = 0;
 
-    for (i = 1; i < argc && i < SHEETS - 4; i++)
+    for (i = 1; i < argc && i < SHEETS - 5; i++)
         read_sheet(argv[i]);
     line(255);
     ring(64);
     ring(255);
     square(255);
+    words();
 
     memory = mmap(NULL, BELOW + STACK, PROT_READ | PROT_WRITE, MAP_PRIVATE | MAP_ANONYMOUS, -1, 0);
     if (memory == MAP_FAILED || mprotect(memory, BELOW, PROT_NONE) != 0)

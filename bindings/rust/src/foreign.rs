@@ -3,6 +3,7 @@
 #![allow(missing_docs)]
 
 extern "C" {
+    pub fn bixtogan_nodes(sheet: *const u8, length: usize, nodes: &mut u64) -> u8;
     pub fn bixtogan_count(sheet: *const u8, length: usize, readings: &mut u64) -> u8;
     pub fn bixtogan_reading(
         sheet: *const u8,

@@ -4,8 +4,11 @@
 //! solved forms of that graph. The functions here call the proved static library; they keep no state, and nothing is asked of
 //! the bytes lent: each call tests its own input.
 //!
-//! A *placing* is n bytes, one a node: the leaf that a root hangs under, or [`TOP`] for a root on top and for a node that is no
-//! root.
+//! A word that stands alone is a node without tree edges. It is read as the root of a fragment, with one leaf added. Added leaves
+//! are numbered after the nodes that the sheet writes, by ascending node; [`nodes`] counts both.
+//!
+//! A *placing* is n bytes, one a node, n being what [`nodes`] answers: the leaf that a root hangs under, or [`TOP`] for a root on
+//! top and for a node that is no root.
 //!
 //! ```
 //! use bixtogan::{count, Count, Place};
@@ -28,7 +31,7 @@ mod library;
 
 use std::fmt;
 
-/// The most nodes that a sheet has.
+/// The most nodes that a sheet has, added leaves counted.
 pub const NODES: usize = 128;
 
 /// The most bytes that a sheet has.
@@ -51,14 +54,12 @@ pub enum Refusal {
     Missing = 1,
     /// 2: the command byte is unknown or out of place, or a byte follows the end.
     Command,
-    /// 3: the number of nodes is outside 2 to 128, or an operand is no node.
+    /// 3: the number of nodes is outside 1 to 128, or an operand is no node that the sheet writes.
     Range,
     /// 4: a tree edge joins a node with itself or gives it a second parent, or tree edges form a cycle.
     Tree,
-    /// 5: a node has no tree edge.
-    Bare,
     /// 6: a dominance edge doesn't go from a leaf to a root.
-    Ends,
+    Ends = 6,
     /// 8: it would be the 256th different dominance edge.
     TooMany = 8,
     /// 9: no solved form exists.
@@ -69,6 +70,8 @@ pub enum Refusal {
     NoSuchReading,
     /// 12: the sheet has more than 2,048 bytes.
     TooLong,
+    /// 13: with a leaf added for each node without a tree edge, there are more than 128 nodes.
+    Overgrown,
 }
 
 impl Refusal {
@@ -77,16 +80,16 @@ impl Refusal {
         Refusal::Command,
         Refusal::Range,
         Refusal::Tree,
-        Refusal::Bare,
         Refusal::Ends,
         Refusal::TooMany,
         Refusal::NoReading,
         Refusal::SmallBuffer,
         Refusal::NoSuchReading,
         Refusal::TooLong,
+        Refusal::Overgrown,
     ];
 
-    /// Its number, 1 to 6 or 8 to 12.
+    /// Its number, 1 to 4, 6 or 8 to 13.
     ///
     /// ```
     /// assert_eq!(bixtogan::count(&[5]).unwrap_err().number(), 2);
@@ -95,14 +98,15 @@ impl Refusal {
         self as u8
     }
 
-    /// The refusal with a number. None has the number 7.
+    /// The refusal with a number. None has the number 5 or 7.
     ///
     /// ```
     /// use bixtogan::Refusal;
     ///
     /// assert_eq!(Refusal::of_number(12), Some(Refusal::TooLong));
+    /// assert_eq!(Refusal::of_number(13), Some(Refusal::Overgrown));
     /// let numbers: Vec<u8> = (0..=255).filter(|&number| Refusal::of_number(number).is_some()).collect();
-    /// assert_eq!(numbers, [1, 2, 3, 4, 5, 6, 8, 9, 10, 11, 12]);
+    /// assert_eq!(numbers, [1, 2, 3, 4, 6, 8, 9, 10, 11, 12, 13]);
     /// ```
     pub fn of_number(number: u8) -> Option<Refusal> {
         Refusal::ALL.into_iter().find(|why| why.number() == number)
@@ -190,6 +194,22 @@ fn placed(number: u8, pairs: u64) -> Result<(), Unplaced> {
         Refusal::NoReading => Unplaced::Cycle(pairs as usize),
         why => Unplaced::Refused(why),
     })
+}
+
+/// How many nodes the sheet has, added leaves counted: so many bytes has a placing. Refused only where the sheet is not
+/// well-formed.
+///
+/// ```
+/// use bixtogan::{nodes, Refusal};
+///
+/// // Three nodes and a tree edge from 0 to 1; node 2 stands alone, and leaf 3 is added to it.
+/// assert_eq!(nodes(&[1, 3, 2, 0, 1, 0]), Ok(4));
+/// // 65 nodes that stand alone would be 130.
+/// assert_eq!(nodes(&[1, 65, 0]), Err(Refusal::Overgrown));
+/// ```
+pub fn nodes(sheet: &[u8]) -> Result<usize, Refusal> {
+    let (number, nodes) = library::nodes(sheet);
+    answered(number, nodes as usize)
 }
 
 /// How many readings the sheet has.
@@ -284,7 +304,8 @@ pub fn drawing(sheet: &[u8], number: u64, out: &mut [u8]) -> Result<usize, Refus
     answered(refused, length as usize)
 }
 
-/// Writes the tidy sheet: tree edges by child, then dominance edges by leaf and root, each edge once; its length.
+/// Writes the tidy sheet: tree edges by child, then dominance edges by leaf and root, each edge once, and no added leaf; its
+/// length.
 ///
 /// ```
 /// let mut out = [0; 9];

@@ -5,6 +5,12 @@ use crate::{foreign, Fragment};
 // Each call hands over slices and references that are valid and, where they can be written, borrowed by this call alone. That is
 // all that the library asks of its caller.
 
+pub fn nodes(sheet: &[u8]) -> (u8, u64) {
+    let mut nodes = 0;
+    let number = unsafe { foreign::bixtogan_nodes(sheet.as_ptr(), sheet.len(), &mut nodes) };
+    (number, nodes)
+}
+
 pub fn count(sheet: &[u8]) -> (u8, u64) {
     let mut readings = 0;
     let number = unsafe { foreign::bixtogan_count(sheet.as_ptr(), sheet.len(), &mut readings) };
