@@ -8,6 +8,7 @@ const DOMINANCE: u8 = 3;
 /// A sheet's commands, as far as they can be read.
 #[derive(Default)]
 pub struct Commands {
+    /// How many are written.
     pub nodes: u8,
     pub tree: Vec<(u8, u8)>,
     /// Each of them once.
@@ -86,6 +87,12 @@ mod tests {
     fn bytes_are_their_text() {
         let lines = commands(&[1, 4, 2, 0, 1, 2, 2, 3, 3, 1, 2, 0]).lines;
         assert_eq!(lines, ["nodes 4", "tree 0 1", "tree 2 3", "dom 1 2"]);
+    }
+
+    #[test]
+    fn one_node_alone() {
+        assert_eq!(encode("nodes 1\n"), Ok(vec![1, 1, 0]));
+        assert_eq!(commands(&[1, 1, 0]).lines, ["nodes 1"]);
     }
 
     #[test]

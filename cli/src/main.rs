@@ -13,6 +13,7 @@ const USAGE: &str = "\
 usage: bixtogan WORD < SHEET
   list                how many readings there are, and each of them
   count               how many readings there are
+  nodes               how many nodes there are, with the leaf added to each that has no tree edge
   reading K           reading K: root:leaf for each root that hangs under a leaf
   configuration       a configuration, in the same way
   draw K              reading K, drawn in one line
@@ -30,6 +31,7 @@ fn answer(words: &[&str]) -> Answer {
     match words {
         ["list"] => words::list(&sheet()?),
         ["count"] => words::count(&sheet()?),
+        ["nodes"] => words::nodes(&sheet()?),
         ["reading", k] => words::reading(number(k)?, &sheet()?),
         ["configuration"] => words::configuration(&sheet()?),
         ["draw", k] => words::draw(number(k)?, &sheet()?),

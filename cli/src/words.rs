@@ -1,5 +1,6 @@
 //! What each word answers.
-use crate::{dot, form};
+use crate::dot::{self, Pictured};
+use crate::form;
 use bixtogan::{Count, Fragment, Place, Refusal, Unplaced, DRAWING, LAST, NODES, TOP};
 use std::fmt::Write;
 
@@ -16,11 +17,6 @@ impl From<Refusal> for Failure {
     fn from(why: Refusal) -> Failure {
         Failure::Refused(format!("{why}\n").into_bytes())
     }
-}
-
-/// The number of nodes, as far as the sheet has one: a sheet without is refused by every call.
-fn nodes(sheet: &[u8]) -> usize {
-    usize::from(form::commands(sheet).nodes).min(NODES)
 }
 
 /// The figures of a number, and how many there are.
@@ -84,6 +80,10 @@ fn count_line(count: Count) -> String {
     }
 }
 
+pub fn nodes(sheet: &[u8]) -> Answer {
+    Ok(format!("{}\n", bixtogan::nodes(sheet)?).into_bytes())
+}
+
 pub fn count(sheet: &[u8]) -> Answer {
     Ok(count_line(bixtogan::count(sheet)?).into_bytes())
 }
@@ -91,7 +91,7 @@ pub fn count(sheet: &[u8]) -> Answer {
 /// One walk finds all readings. Only where they are as many as can be handed out does it take a count to tell whether there are
 /// more.
 pub fn list(sheet: &[u8]) -> Answer {
-    let n = nodes(sheet);
+    let n = bixtogan::nodes(sheet)?;
     let mut out = vec![0; n * LAST as usize];
     let listed = Place::start().fill(sheet, &mut out).map_err(|why| Failure::from(why.refusal()))? as u64;
     let count = if listed < LAST { Count::Exactly(listed) } else { bixtogan::count(sheet)? };
@@ -107,7 +107,7 @@ fn placing_of(k: u64, sheet: &[u8]) -> Result<Vec<u8>, Failure> {
     let mut out = vec![0; 2 * NODES];
     let mut place = Place::after(k.wrapping_sub(1));
     place.next(sheet, &mut out).map_err(|why| unplaced(why, &out))?;
-    out.truncate(nodes(sheet));
+    out.truncate(bixtogan::nodes(sheet)?);
     Ok(out)
 }
 
@@ -118,7 +118,7 @@ pub fn reading(k: u64, sheet: &[u8]) -> Answer {
 pub fn configuration(sheet: &[u8]) -> Answer {
     let mut out = vec![0; 2 * NODES];
     bixtogan::configuration(sheet, &mut out).map_err(|why| unplaced(why, &out))?;
-    Ok(line("configuration", &out[..nodes(sheet)]))
+    Ok(line("configuration", &out[..bixtogan::nodes(sheet)?]))
 }
 
 pub fn draw(k: u64, sheet: &[u8]) -> Answer {
@@ -135,11 +135,16 @@ pub fn tidy(sheet: &[u8]) -> Answer {
     Ok(lines(&out[..length]))
 }
 
-pub fn fragments(sheet: &[u8]) -> Answer {
-    let mut table = [Fragment::default(); NODES / 2];
+fn table(sheet: &[u8]) -> Result<Vec<Fragment>, Refusal> {
+    let mut table = vec![Fragment::default(); NODES / 2];
     let records = bixtogan::fragments(sheet, &mut table)?;
+    table.truncate(records);
+    Ok(table)
+}
+
+pub fn fragments(sheet: &[u8]) -> Answer {
     let mut text = String::new();
-    for record in &table[..records] {
+    for record in table(sheet)? {
         let _ = writeln!(text, "{} {} {}", record.root, record.lowest_leaf, record.leaves);
     }
     Ok(text.into_bytes())
@@ -154,7 +159,7 @@ fn yes(answer: bool) -> &'static str {
 }
 
 pub fn check_placing(text: &str, sheet: &[u8]) -> Answer {
-    let mut placing = vec![TOP; nodes(sheet)];
+    let mut placing = vec![TOP; bixtogan::nodes(sheet)?];
     for pair in text.split_whitespace() {
         let wrong = || Failure::Input(format!("{pair}: wanted ROOT:LEAF, with numbers of nodes"));
         let (root, leaf) = pair.split_once(':').ok_or_else(wrong)?;
@@ -178,6 +183,14 @@ pub fn check_cycle(text: &str, sheet: &[u8]) -> Answer {
     Ok(format!("{}\n", yes(bixtogan::check_cycle(sheet, &cycle)?)).into_bytes())
 }
 
+/// What a picture of the sheet shows. Of a fragment with an added leaf no leaf is written, so its lowest one tells.
+fn pictured(sheet: &[u8]) -> Result<Pictured, Refusal> {
+    let commands = form::commands(sheet);
+    let added = table(sheet)?.into_iter().filter(|record| record.lowest_leaf >= commands.nodes);
+    let added = added.map(|record| (record.root, record.lowest_leaf)).collect();
+    Ok(Pictured { commands, added })
+}
+
 /// The picture of a sheet that is read; where it has no reading, its cycle is marked.
 pub fn dot(sheet: &[u8]) -> Answer {
     let mut out = vec![0; 2 * NODES];
@@ -186,12 +199,12 @@ pub fn dot(sheet: &[u8]) -> Answer {
         Err(Unplaced::Cycle(pairs)) => &out[..2 * pairs],
         Err(Unplaced::Refused(why)) => return Err(why.into()),
     };
-    Ok(dot::sheet(&form::commands(sheet), cycle).into_bytes())
+    Ok(dot::sheet(&pictured(sheet)?, cycle).into_bytes())
 }
 
 pub fn dot_reading(k: u64, sheet: &[u8]) -> Answer {
     let placing = placing_of(k, sheet)?;
-    Ok(dot::placing(&form::commands(sheet), &placing).into_bytes())
+    Ok(dot::placing(&pictured(sheet)?, &placing).into_bytes())
 }
 
 fn lines(sheet: &[u8]) -> Vec<u8> {
@@ -201,7 +214,7 @@ fn lines(sheet: &[u8]) -> Vec<u8> {
 /// What can be read of the sheet, and the refusal after it where it is not well-formed.
 pub fn decode(sheet: &[u8]) -> Answer {
     let text = lines(sheet);
-    match bixtogan::check_cycle(sheet, &[]) {
+    match bixtogan::nodes(sheet) {
         Ok(_) => Ok(text),
         Err(why) => Err(Failure::Refused([text, format!("# {why}\n").into_bytes()].concat())),
     }

@@ -144,7 +144,7 @@ fn placings_are_checked() {
 
 #[test]
 fn text_and_bytes() {
-    for name in ["chain-of-two", "every-linguist", "fork", "loop", "one-fragment", "square"] {
+    for name in ["chain-of-two", "every-linguist", "fork", "loop", "one-fragment", "one-word-fragments", "square"] {
         let sheet = sample(&format!("{name}.sheet"));
         let (text, status) = run(&["decode"], &sheet);
         assert_eq!(status, 0);
@@ -175,6 +175,94 @@ fn the_same_edge_twice() {
     assert_eq!(picture.matches("dashed").count(), 1);
     assert_eq!(run(&["list"], &repeating(679)), done("readings 1\n1 2:1\n"));
     assert_eq!(run(&["list"], &repeating(680)), refused("refused 12\n"));
+}
+
+/// One fragment with the leaf 1, and the words 2 and 3 below it.
+const BELOW_ONE_LEAF: [u8; 12] = [1, 4, 2, 0, 1, 3, 1, 2, 3, 1, 3, 0];
+
+// 02, Two.
+#[test]
+fn one_word_fragments() {
+    let (one, status) = bytes(&["encode"], b"nodes 1\n");
+    assert_eq!((&one[..], status), (&[1, 1, 0][..], 0));
+    assert_eq!(run(&["nodes"], &one), done("2\n"));
+    assert_eq!(run(&["list"], &one), done("readings 1\n1\n"));
+    assert_eq!(run(&["draw", "1"], &one), done("0(1)\n"));
+    assert_eq!(run(&["fragments"], &one), done("0 1 1\n"));
+    assert_eq!(run(&["tidy"], &one), done("nodes 1\n"));
+    assert_eq!(run(&["decode"], &one), done("nodes 1\n"));
+    assert_eq!(run(&["nodes"], &[1, 2, 0]), done("4\n"));
+    assert_eq!(run(&["draw", "1"], &[1, 2, 0]), done("0(2);1(3)\n"));
+
+    let sheet = BELOW_ONE_LEAF;
+    assert_eq!(run(&["nodes"], &sheet), done("6\n"));
+    assert_eq!(run(&["list"], &sheet), done("readings 1\n1 2:1 3:1\n"));
+    assert_eq!(run(&["reading", "1"], &sheet), done("1 2:1 3:1\n"));
+    assert_eq!(run(&["configuration"], &sheet), done("configuration 2:1 3:4\n"));
+    assert_eq!(run(&["draw", "1"], &sheet), done("0(1[2(4);3(5)])\n"));
+    assert_eq!(run(&["fragments"], &sheet), done("0 1 1\n2 4 1\n3 5 1\n"));
+    assert_eq!(run(&["tidy"], &sheet), done("nodes 4\ntree 0 1\ndom 1 2\ndom 1 3\n"));
+    // A root may hang under an added leaf.
+    let configured = file("configured", "2:1 3:4\n");
+    assert_eq!(run(&["check-placing", &configured], &sheet), done("solved form yes\nconfiguration yes\nreading no\n"));
+}
+
+#[test]
+fn the_chain_of_two_with_a_word_at_its_end() {
+    let chain = sample("chain-of-two.sheet");
+    // Node 11 is added where it is not written.
+    let mut sheet = chain.clone();
+    sheet[1] = 11;
+    let edge = sheet.windows(3).position(|command| command == [2, 10, 11]).unwrap();
+    sheet.drain(edge..edge + 3);
+    for words in [&["list"][..], &["draw", "1"], &["draw", "2"], &["nodes"], &["configuration"], &["fragments"]] {
+        assert_eq!(run(words, &sheet), run(words, &chain), "{words:?}");
+    }
+    let list = std::fs::read_to_string(repository("crates/readings/stdout")).unwrap();
+    assert_eq!(run(&["list"], &sheet), done(&list));
+}
+
+#[test]
+fn one_graph_and_two_tidy_sheets() {
+    let pairs = [1, 4, 2, 0, 2, 2, 1, 3, 0];
+    for words in [&["list"][..], &["draw", "1"], &["nodes"], &["fragments"]] {
+        assert_eq!(run(words, &[1, 2, 0]), run(words, &pairs), "{words:?}");
+    }
+    assert_eq!(run(&["tidy"], &[1, 2, 0]), done("nodes 2\n"));
+    assert_eq!(run(&["tidy"], &pairs), done("nodes 4\ntree 0 2\ntree 1 3\n"));
+}
+
+#[test]
+fn pictures_have_added_leaves() {
+    let (picture, status) = run(&["dot"], &BELOW_ONE_LEAF);
+    assert_eq!(status, 0);
+    for line in ["0 -> 1", "2 -> 4", "3 -> 5"] {
+        assert!(picture.contains(&format!("  {line} [style=solid];\n")), "{line}");
+    }
+    let (reading, _) = run(&["dot", "1"], &BELOW_ONE_LEAF);
+    for line in ["1 -> 2 [style=bold]", "2 -> 4 [style=solid]", "1 -> 3 [style=bold]", "3 -> 5 [style=solid]"] {
+        assert!(reading.contains(&format!("  {line};\n")), "{line}");
+    }
+    // Two leaves of one fragment above a word: no reading, and no added leaf is on the cycle.
+    let fork = [1, 4, 2, 0, 1, 2, 0, 2, 3, 1, 3, 3, 2, 3, 0];
+    let (picture, _) = run(&["dot"], &fork);
+    assert_eq!(picture.matches("color=red").count(), 4);
+    assert!(picture.contains("  3 -> 4 [style=solid];\n"));
+    let cycle = file("cycle-of-words", "0 2 1 3 3 3 2 2");
+    assert_eq!(run(&["check-cycle", &cycle], &fork), done("yes\n"));
+    assert_eq!(run(&["list"], &fork), refused("refused 9\n"));
+}
+
+#[test]
+fn sheets_that_grow_too_large() {
+    assert_eq!(run(&["nodes"], &[1, 64, 0]), done("128\n"));
+    assert_eq!(run(&["list"], &[1, 64, 0]), done("readings 1\n1\n"));
+    assert_eq!(run(&["nodes"], &[1, 65, 0]), refused("refused 13\n"));
+    assert_eq!(run(&["list"], &[1, 65, 0]), refused("refused 13\n"));
+    assert_eq!(run(&["decode"], &[1, 65, 0]), refused("nodes 65\n# refused 13\n"));
+    assert_eq!(run(&["list"], &[1, 65, 3, 0, 0, 0]), refused("refused 13\n"));
+    assert_eq!(run(&["list"], &[1, 64, 3, 0, 0, 0]), refused("refused 6\n"));
+    assert_eq!(run(&["list"], &[1, 67, 2, 0, 1, 2, 1, 0, 0]), refused("refused 4\n"));
 }
 
 #[test]
@@ -210,6 +298,9 @@ fn refusals() {
     let sheet = sample("chain-of-two.sheet");
     assert_eq!(run(&["list"], &[5]), refused("refused 2\n"));
     assert_eq!(run(&["list"], &[]), refused("refused 1\n"));
+    assert_eq!(run(&["list"], &[1, 0]), refused("refused 3\n"));
+    assert_eq!(run(&["list"], &[1, 1]), refused("refused 1\n"));
+    assert_eq!(run(&["check-placing", &file("pairs", "0:1")], &[5]), refused("refused 2\n"));
     assert_eq!(run(&["reading", "0"], &sheet), refused("refused 11\n"));
     assert_eq!(run(&["reading", "3"], &sheet), refused("refused 11\n"));
     assert_eq!(run(&["draw", "3"], &sheet), refused("refused 11\n"));
