@@ -3,8 +3,8 @@ use crate::graph::{Edge, Graph};
 use crate::listing::{all, first, Leave};
 use crate::placing::{check, Answers, TOP};
 use crate::random::Random;
-use crate::sheet::{read, table, tidy, write};
-use crate::sheets::{chain, random_fork, random_graph, side_by_side, untidy};
+use crate::sheet::{read, table, tidy, write, written};
+use crate::sheets::{bared, chain, near_overgrown, random_fork, random_graph, side_by_side, untidy};
 use crate::{brute, cycle, drawing, fragments, hypernormal, rule1};
 
 fn graph(nodes: usize, tree: &[Edge], dominance: &[Edge]) -> Graph {
@@ -33,10 +33,11 @@ fn no_reading(graph: &Graph) -> bool {
 fn short_sheets() {
     assert_eq!(read(&[]), Err(1));
     assert_eq!(read(&[0x05]), Err(2));
-    assert_eq!(read(&[0x01, 0x01]), Err(3));
+    assert_eq!(read(&[0x01, 0x00]), Err(3));
+    assert_eq!(read(&[0x01, 0x01]), Err(1));
     assert_eq!(read(&[0x01, 0x81]), Err(3));
     assert_eq!(read(&[0x01, 0x80]), Err(1));
-    assert_eq!(read(&[0x01, 0x02, 0x00]), Err(5));
+    assert_eq!(lines(&read(&[0x01, 0x02, 0x00]).unwrap()), [""]);
     assert_eq!(lines(&read(&[0x01, 0x02, 0x02, 0x00, 0x01, 0x00]).unwrap()), [""]);
 }
 
@@ -56,7 +57,7 @@ fn refusals_within_a_command_come_in_order() {
 #[test]
 fn the_tests_of_the_whole_come_in_order() {
     assert_eq!(read(&[1, 3, 2, 0, 1, 2, 1, 0, 3, 1, 0, 0]), Err(4));
-    assert_eq!(read(&[1, 3, 2, 0, 1, 3, 0, 1, 0]), Err(5));
+    assert_eq!(read(&[1, 3, 2, 0, 1, 3, 0, 1, 0]), Err(6));
     assert_eq!(read(&[1, 2, 2, 0, 1, 3, 0, 0, 0]), Err(6));
     assert_eq!(read(&[1, 2, 2, 0, 1, 3, 1, 1, 0]), Err(6));
 }
@@ -128,6 +129,94 @@ fn the_same_edge_twice() {
     assert_eq!(read(&[0; 2049]), Err(12));
 }
 
+/// A sheet of bare nodes alone.
+fn words(nodes: usize, dominance: &[Edge]) -> Vec<u8> {
+    write(nodes, &[], dominance)
+}
+
+/// Document 02, Two.
+#[test]
+fn one_word_fragments() {
+    for (nodes, text) in [(1, "0(1)"), (2, "0(2);1(3)")] {
+        let graph = read(&words(nodes, &[])).unwrap();
+        assert_eq!((graph.nodes(), lines(&graph)), (2 * nodes, vec![String::new()]));
+        assert_eq!(drawing::drawing(&graph, &all(&graph)[0]), text);
+    }
+    assert_eq!(table(&read(&words(1, &[])).unwrap()), [[0, 1, 1]]);
+
+    let graph = graph(4, &[(0, 1)], &[(1, 2), (1, 3)]);
+    let reading = &all(&graph)[0];
+    assert_eq!(lines(&graph), [" 2:1 3:1"]);
+    assert_eq!(drawing::drawing(&graph, reading), "0(1[2(4);3(5)])");
+    assert_eq!(rule1::configuration(&graph, reading), [TOP, TOP, 1, 4, TOP, TOP]);
+    assert_eq!(table(&graph), [[0, 1, 1], [2, 4, 1], [3, 5, 1]]);
+}
+
+#[test]
+fn no_reading_of_one_word_fragments() {
+    let graph = graph(4, &[(0, 1), (0, 2)], &[(1, 3), (2, 3)]);
+    assert!(no_reading(&graph));
+    assert!(cycle::check(&graph, &[0, 2, 1, 3, 3, 3, 2, 2]));
+}
+
+#[test]
+fn bare_nodes_are_refused_in_order() {
+    assert_eq!(read(&words(64, &[])).map(|graph| all(&graph).len()), Ok(1));
+    assert_eq!(read(&words(65, &[])), Err(13));
+    assert_eq!(read(&words(64, &[(0, 0)])), Err(6));
+    assert_eq!(read(&words(65, &[(0, 0)])), Err(13));
+    assert_eq!(read(&write(67, &[(0, 1), (1, 0)], &[])), Err(4));
+    assert_eq!(read(&write(66, &[(0, 1), (0, 2)], &[])), Err(13));
+    assert_eq!(read(&write(65, &[(0, 1)], &[])).map(|graph| graph.nodes()), Ok(128));
+    // An added leaf has no name in the sheet.
+    assert_eq!(read(&words(2, &[(2, 1)])), Err(3));
+}
+
+/// The chain of two has node 11 whether it is written or not.
+#[test]
+fn an_added_leaf_is_like_a_written_one() {
+    let tree = [(0, 1), (0, 2), (3, 4), (3, 5), (6, 7), (8, 9)];
+    let bytes = write(11, &tree, &[(1, 6), (2, 8), (4, 8), (5, 10)]);
+    assert_eq!(read(&bytes), read(&chain(2)));
+    assert_eq!(tidy(&written(&bytes).unwrap()), bytes);
+
+    let pairs = write(4, &[(0, 2), (1, 3)], &[]);
+    assert_eq!(read(&words(2, &[])), read(&pairs));
+    for bytes in [words(2, &[]), pairs] {
+        assert_eq!(tidy(&written(&bytes).unwrap()), bytes);
+    }
+}
+
+#[test]
+fn baring_changes_numbers_alone() {
+    let mut random = Random::new(7);
+    let mut left_out = 0;
+    for _ in 0..200 {
+        let graph = random_graph(&mut random, 24);
+        let bared = bared(&mut random, &graph);
+        left_out += graph.nodes() - bared.nodes();
+        let grown = bared.grown();
+        assert_eq!(grown.nodes(), graph.nodes());
+        assert_eq!(fragments::count(&grown, 5000), fragments::count(&graph, 5000));
+    }
+    assert!(left_out > 200, "{left_out}");
+}
+
+#[test]
+fn some_grow_too_large() {
+    let mut random = Random::new(8);
+    let mut seen = [0, 0];
+    for _ in 0..200 {
+        let graph = near_overgrown(&mut random);
+        let grown = graph.nodes() + graph.bare_nodes().len();
+        assert!(graph.nodes() <= 128 && (126..=132).contains(&grown));
+        let refused = read(&tidy(&graph)).map(|grown| grown.nodes());
+        assert_eq!(refused, if grown <= 128 { Ok(grown) } else { Err(13) });
+        seen[usize::from(grown > 128)] += 1;
+    }
+    assert!(seen[0] > 50 && seen[1] > 50, "{seen:?}");
+}
+
 #[test]
 fn chains_have_as_many_readings_as_section_9_prints() {
     for (length, readings) in (2..).zip([2, 5, 14, 42, 132, 429, 1430]) {
@@ -159,9 +248,10 @@ fn tidying_twice_is_tidying_once() {
     let mut random = Random::new(4);
     for _ in 0..200 {
         let graph = random_graph(&mut random, 128);
+        let graph = bared(&mut random, &graph);
         let bytes = untidy(&mut random, &graph);
-        assert_eq!(read(&bytes).as_ref(), Ok(&graph));
-        assert_eq!(read(&tidy(&graph)).as_ref(), Ok(&graph));
+        assert_eq!(written(&bytes).as_ref(), Ok(&graph));
+        assert_eq!(written(&tidy(&graph)).as_ref(), Ok(&graph));
     }
 }
 
@@ -172,6 +262,7 @@ fn brute_force_agrees() {
     let mut seen = [0, 0];
     for _ in 0..600 {
         let graph = random_graph(&mut random, 9);
+        let graph = bared(&mut random, &graph).grown();
         if brute::placings(&graph) > 2500 {
             continue;
         }

@@ -3,7 +3,7 @@
 pub type Node = usize;
 pub type Edge = (Node, Node);
 
-/// The most nodes that a sheet has: a set of nodes is one word.
+/// The most nodes that a sheet has, added leaves counted: a set of nodes is one word.
 pub const NODES: usize = 128;
 
 /// A set of nodes.
@@ -19,7 +19,7 @@ pub fn members(set: Set) -> impl Iterator<Item = Node> {
     })
 }
 
-/// A well-formed sheet's graph.
+/// A sheet's graph, as it is written or grown.
 #[derive(Clone, Debug, PartialEq, Eq)]
 pub struct Graph {
     /// The parent of each node; none of a root.
@@ -47,6 +47,18 @@ impl Graph {
 
     pub fn leaves(&self) -> Vec<Node> {
         (0..self.nodes()).filter(|&node| self.is_leaf(node)).collect()
+    }
+
+    /// The nodes without a tree edge, ascending.
+    pub fn bare_nodes(&self) -> Vec<Node> {
+        self.roots().into_iter().filter(|&root| self.is_leaf(root)).collect()
+    }
+
+    /// With a leaf added to each node without a tree edge: numbered from the number of nodes upward, by ascending node.
+    pub fn grown(mut self) -> Graph {
+        let bare = self.bare_nodes();
+        self.parent.extend(bare.into_iter().map(Some));
+        self
     }
 
     /// The root of the node's fragment.
@@ -118,6 +130,16 @@ mod tests {
     fn members_ascend() {
         assert_eq!(members(0).count(), 0);
         assert_eq!(members(1 | 1 << 127 | 1 << 64).collect::<Vec<_>>(), [0, 64, 127]);
+    }
+
+    #[test]
+    fn a_bare_node_grows_a_leaf() {
+        let graph = Graph { parent: vec![None, None, Some(1), None], dominance: vec![(2, 0)] };
+        assert_eq!(graph.bare_nodes(), [0, 3]);
+        let grown = graph.grown();
+        assert_eq!(grown.parent, [None, None, Some(1), None, Some(0), Some(3)]);
+        assert_eq!((grown.leaves(), grown.bare_nodes()), (vec![2, 4, 5], vec![]));
+        assert_eq!(grown.clone().grown(), grown);
     }
 
     #[test]

@@ -1,7 +1,8 @@
-//! Document 01 a second time, in plain Rust and from the document alone: nothing here is shared with the proved solver, and
-//! nothing is made fast where that would hide the sentence it renders. `main.rs` holds every call of the library against it.
+//! Documents 01 and 02 a second time, in plain Rust and from the documents alone: nothing here is shared with the proved
+//! solver, and nothing is made fast where that would hide the sentence it renders. `main.rs` holds every call of the library
+//! against it.
 //!
-//! Where the document leaves a way open, the tests here go three ways that have nothing in common: Section 5's recursion,
+//! Where the documents leave a way open, the tests here go three ways that have nothing in common: Section 5's recursion,
 //! free fragments, and the matching of Section 7; [`brute`] tries all placings of a tiny sheet.
 pub mod brute;
 pub mod cycle;
@@ -19,7 +20,7 @@ pub mod sheets;
 #[cfg(test)]
 mod cases;
 
-/// A refusal's number, 1 to 6 or 8 to 12.
+/// A refusal's number, 1 to 4, 6 or 8 to 13.
 pub type Refused = u8;
 
 /// The last number that a reading is asked for by, and the largest exact count.

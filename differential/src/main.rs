@@ -71,11 +71,11 @@ fn main() -> ExitCode {
         return ExitCode::from(2);
     };
     match run(&options) {
-        Ok(Tally { sheets, refused, unsolvable, calls }) => {
+        Ok(Tally { sheets, refused, overgrown, grown, unsolvable, calls }) => {
             let seed = options.seed;
             println!(
-                "seed {seed}: {calls} calls on {sheets} sheets ({refused} not well-formed, {unsolvable} without a reading) \
-                 compared, no difference"
+                "seed {seed}: {calls} calls on {sheets} sheets ({refused} not well-formed, {overgrown} of them overgrown; \
+                 {grown} grown; {unsolvable} without a reading) compared, no difference"
             );
             ExitCode::SUCCESS
         }

@@ -5,7 +5,7 @@ use std::collections::BTreeSet;
 
 const END: u8 = 0;
 const COUNT: u8 = 1;
-const TREE: u8 = 2;
+pub const TREE: u8 = 2;
 pub const DOMINANCE: u8 = 3;
 
 const MOST_DOMINANCE: usize = 255;
@@ -66,24 +66,30 @@ impl Commands {
         true
     }
 
-    /// The tests of the whole, in the document's order.
+    /// The tests of the whole, in the documents' order: a node without tree edges is no leaf, since it grows one.
     fn graph(self) -> Result<Graph, Refused> {
         if (0..self.parent.len()).any(|node| self.rises_forever(node)) {
             return Err(4);
         }
-        let graph = Graph { parent: self.parent, dominance: self.dominance.into_iter().collect() };
-        if (0..graph.nodes()).any(|node| graph.is_root(node) && graph.is_leaf(node)) {
-            return Err(5);
+        let written = Graph { parent: self.parent, dominance: self.dominance.into_iter().collect() };
+        let grown = written.clone().grown();
+        if grown.nodes() > NODES {
+            return Err(13);
         }
-        if graph.dominance.iter().any(|&(leaf, root)| !graph.is_leaf(leaf) || !graph.is_root(root)) {
+        if grown.dominance.iter().any(|&(leaf, root)| !grown.is_leaf(leaf) || !grown.is_root(root)) {
             return Err(6);
         }
-        Ok(graph)
+        Ok(written)
     }
 }
 
-/// The graph of a well-formed sheet; else its refusal, 12 before the others.
+/// The graph of a well-formed sheet, grown (document 02, Two); else its refusal.
 pub fn read(bytes: &[u8]) -> Result<Graph, Refused> {
+    written(bytes).map(Graph::grown)
+}
+
+/// The graph as a well-formed sheet writes it; else its refusal, 12 before the others.
+pub fn written(bytes: &[u8]) -> Result<Graph, Refused> {
     if bytes.len() > LONGEST {
         return Err(12);
     }
@@ -92,7 +98,7 @@ pub fn read(bytes: &[u8]) -> Result<Graph, Refused> {
         return Err(2);
     }
     let nodes = usize::from(byte(&mut rest)?);
-    if !(2..=NODES).contains(&nodes) {
+    if !(1..=NODES).contains(&nodes) {
         return Err(3);
     }
     let mut commands = Commands { parent: vec![None; nodes], dominance: BTreeSet::new() };
@@ -124,13 +130,13 @@ pub fn write(nodes: usize, tree: &[Edge], dominance: &[Edge]) -> Vec<u8> {
     bytes
 }
 
-/// The tidy sheet: tree edges by child, then dominance edges by leaf and root.
-pub fn tidy(graph: &Graph) -> Vec<u8> {
-    let tree: Vec<Edge> = graph.tree().collect();
-    write(graph.nodes(), &tree, &graph.dominance)
+/// The tidy sheet of what is written: tree edges by child, then dominance edges by leaf and root.
+pub fn tidy(written: &Graph) -> Vec<u8> {
+    let tree: Vec<Edge> = written.tree().collect();
+    write(written.nodes(), &tree, &written.dominance)
 }
 
-/// Root, lowest leaf and number of leaves of each fragment, by ascending root.
+/// Root, lowest leaf and number of leaves of each fragment of a grown graph, by ascending root.
 pub fn table(graph: &Graph) -> Vec<[u8; 3]> {
     let record = |root| {
         let leaves = graph.leaves_of(root);

@@ -50,6 +50,45 @@ pub fn shuffled(random: &mut Random, graph: &Graph) -> Graph {
     renumbered(graph, &names)
 }
 
+/// Whether a leaf is all that its fragment has besides the root, and starts no dominance edge.
+fn is_spare(graph: &Graph, leaf: Node) -> bool {
+    let root = graph.root_of(leaf);
+    graph.parent[leaf] == Some(root)
+        && graph.leaves_of(root).len() == 1
+        && graph.dominance.iter().all(|&(from, _)| from != leaf)
+}
+
+/// The graph with some leaves left out that its roots, now bare, grow again: but for its numbers it means the same.
+pub fn bared(random: &mut Random, graph: &Graph) -> Graph {
+    let leaves = graph.leaves().into_iter();
+    let out: Vec<Node> = leaves.filter(|&leaf| is_spare(graph, leaf) && !random.once_in(4)).collect();
+    let left = graph.nodes() - out.len();
+    let mut order: Vec<Node> = (0..graph.nodes()).collect();
+    order.sort_by_key(|node| out.contains(node));
+    let mut names = vec![0; order.len()];
+    for (name, &node) in order.iter().enumerate() {
+        names[node] = name;
+    }
+    let mut bared = renumbered(graph, &names);
+    bared.parent.truncate(left);
+    bared
+}
+
+/// A written graph with so many bare nodes that it grows to about as many nodes as a sheet may have, or a few more.
+pub fn near_overgrown(random: &mut Random) -> Graph {
+    let mut graph = Graph { parent: Vec::new(), dominance: Vec::new() };
+    if !random.once_in(4) {
+        let most_nodes = random.pick(&[9, 40, 120]);
+        let other = random_graph(random, most_nodes);
+        graph = bared(random, &other);
+    }
+    let wanted = random.between(NODES - 2, NODES + 3);
+    while graph.nodes() + graph.bare_nodes().len() < wanted {
+        graph.parent.push(None);
+    }
+    shuffled(random, &graph)
+}
+
 /// The same sheet with so many of its dominance edges' commands once more, anywhere.
 pub fn repeating(random: &mut Random, bytes: &[u8], times: usize) -> Vec<u8> {
     let mut commands: Vec<&[u8]> = bytes[2..].chunks_exact(3).collect();

@@ -1,5 +1,6 @@
 //! The program `readings` from its input to what it writes, held against the second implementation: document 01's "The printed
-//! list", with what document 02, One, says of repeats and of long inputs. `rt check readings` makes the program.
+//! list", with what document 02 says of repeats and of long inputs (One) and of nodes without tree edges (Two).
+//! `rt check readings` makes the program.
 use differential::listing::{self, Leave};
 use differential::placing::hung;
 use differential::random::Random;
@@ -103,14 +104,32 @@ fn pairs(fragments: usize, dominance: &[(usize, usize)]) -> Vec<u8> {
 fn each_refusal() {
     agree(&[], "refused 1\n");
     agree(&[5], "refused 2\n");
-    agree(&[1, 1], "refused 3\n");
+    agree(&[1, 0], "refused 3\n");
     agree(&[1, 2, 2, 0, 0, 0], "refused 4\n");
-    agree(&[1, 2, 0], "refused 5\n");
     agree(&pairs(2, &[(0, 2)]), "refused 6\n");
     let many: Vec<_> = (0..16).flat_map(|leaf| (16..32).map(move |root| (2 * leaf + 1, 2 * root))).collect();
     agree(&pairs(32, &many), "refused 8\n");
     agree(&pairs(1, &[(1, 0)]), "refused 9\n");
     agree(&[0; 5000], "refused 12\n");
+    agree(&[1, 65, 0], "refused 13\n");
+}
+
+#[test]
+fn one_word_fragments() {
+    agree(&[1, 1], "refused 1\n");
+    for nodes in [1, 2, 64] {
+        assert_eq!(run(&[1, nodes, 0]), "readings 1\n1\n");
+        agree(&[1, nodes, 0], "readings 1\n1\n");
+    }
+    agree(&sheet::write(4, &[(0, 1)], &[(1, 2), (1, 3)]), "readings 1\n1 2:1 3:1\n");
+    agree(&sheet::write(4, &[(0, 1), (0, 2)], &[(1, 3), (2, 3)]), "refused 9\n");
+    let tree = [(0, 1), (0, 2), (3, 4), (3, 5), (6, 7), (8, 9)];
+    agree(&sheet::write(11, &tree, &[(1, 6), (2, 8), (4, 8), (5, 10)]), CHAIN_OF_TWO);
+    agree(&sheet::write(65, &[], &[(0, 0)]), "refused 13\n");
+    agree(&sheet::write(64, &[], &[(0, 0)]), "refused 6\n");
+    agree(&sheet::write(67, &[(0, 1), (1, 0)], &[]), "refused 4\n");
+    // The added leaf cannot be named.
+    agree(&sheet::write(2, &[], &[(2, 1)]), "refused 3\n");
 }
 
 #[test]
@@ -184,5 +203,7 @@ fn random_sheets() {
         let mut random = Random::new(seed);
         let graph = sheets::random_graph(&mut random, 24);
         agree(&sheets::untidy(&mut random, &graph), "re");
+        let bared = sheets::bared(&mut random, &graph);
+        agree(&sheets::untidy(&mut random, &bared), "re");
     }
 }

@@ -46,6 +46,12 @@ impl<'a> Caller<'a> {
         })
     }
 
+    pub fn nodes(&mut self) -> Compared {
+        let wanted = self.known.nodes();
+        let given = bixtogan::nodes(self.sheet.lend()).map_err(Refusal::number);
+        self.told(given == wanted, "nodes", wanted, given)
+    }
+
     pub fn count(&mut self) -> Compared {
         let Some(wanted) = self.known.count() else {
             return Ok(());

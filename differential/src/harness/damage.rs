@@ -8,7 +8,7 @@ pub fn damaged(random: &mut Random, sheet: &[u8]) -> Vec<u8> {
     let mut bytes = sheet.to_vec();
     let commands = (sheet.len() - 3) / 3;
     let at = random.below(bytes.len());
-    match random.below(13) {
+    match random.below(16) {
         0 => bytes[at] ^= 1 << random.below(8),
         1 => bytes[at] = random.byte(),
         2 => bytes[at] = random.byte() % 6,
@@ -41,6 +41,26 @@ pub fn damaged(random: &mut Random, sheet: &[u8]) -> Vec<u8> {
                 bytes.resize(random.between(LONGEST - 2, LONGEST + 2), 0);
             }
         }
+        // A command left out.
+        11 if commands > 0 => {
+            let from = 2 + 3 * random.below(commands);
+            bytes.drain(from..from + 3);
+        }
+        // A dominance edge more between any nodes, bare ones too, or an added leaf, or what is no node at all.
+        12 => {
+            let ends = usize::from(bytes[1]) + 3;
+            let end = bytes.len() - 1;
+            bytes.splice(end..end, [3, random.below(ends) as u8, random.below(ends) as u8]);
+        }
+        // A tree edge more, back to the parent: a cycle, if that is a root.
+        13 if commands > 0 => {
+            let edges: Vec<&[u8]> = sheet[2..].chunks_exact(3).filter(|command| command[0] == 2).collect();
+            if !edges.is_empty() {
+                let edge = random.pick(&edges);
+                let end = bytes.len() - 1;
+                bytes.splice(end..end, [2, edge[2], edge[1]]);
+            }
+        }
         // A command turned round, or of the other kind.
         _ if commands > 0 => {
             let from = 2 + 3 * random.below(commands);
@@ -57,7 +77,7 @@ pub fn damaged(random: &mut Random, sheet: &[u8]) -> Vec<u8> {
 
 /// Bytes that look like commands, in any order.
 pub fn noise(random: &mut Random) -> Vec<u8> {
-    let nodes = random.between(2, 6);
+    let nodes = random.between(1, 6);
     let mut bytes = vec![1, nodes as u8];
     for _ in 0..random.below(12) {
         let kind = if random.once_in(12) { random.byte() % 5 } else { random.pick(&[2, 2, 3]) };

@@ -5,7 +5,7 @@ use super::trial::known;
 use super::{Difference, Tally};
 use differential::graph::Graph;
 use differential::random::Random;
-use differential::sheets::{chain, random_fork, side_by_side};
+use differential::sheets::{bared, chain, random_fork, side_by_side};
 use differential::{sheet, DRAWING, LAST};
 
 /// Sheets with so many readings, found among random ones.
@@ -28,7 +28,8 @@ pub fn sheets(random: &mut Random) -> Vec<Vec<u8>> {
         sheet::tidy(&side_by_side(&graphs))
     };
     let forks: Vec<Graph> = (0..16).map(|_| random_fork(random, 2)).collect();
-    let power = sheet::tidy(&side_by_side(&forks));
+    let power = side_by_side(&forks);
+    let power = sheet::tidy(&bared(random, &power));
     vec![beside([READINGS_217, READINGS_302]), beside([READINGS_771, READINGS_85]), power, chain(12)]
 }
 
@@ -36,6 +37,7 @@ pub fn sheets(random: &mut Random) -> Vec<Vec<u8>> {
 pub fn try_deep(random: &mut Random, bytes: &[u8]) -> Result<Tally, Difference> {
     let known = known(bytes, LAST as usize + 1)?;
     let mut caller = Caller::new(&known, random);
+    caller.nodes()?;
     caller.count()?;
     // The whole list, and room for one more.
     caller.fill(0, (LAST as usize + 1) * known.room() / 2)?;

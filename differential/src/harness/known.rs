@@ -22,7 +22,10 @@ pub enum Placed {
 }
 
 pub struct Facts {
+    /// The grown graph.
     pub graph: Graph,
+    /// How many nodes are written.
+    pub written: usize,
     pub tidy: Vec<u8>,
     pub table: Vec<[u8; 3]>,
     pub solvable: bool,
@@ -55,7 +58,8 @@ fn total(graph: &Graph, listed: usize, wanted: usize) -> Total {
 }
 
 impl Facts {
-    fn new(graph: Graph, wanted: usize) -> Result<Facts, String> {
+    fn new(written: &Graph, wanted: usize) -> Result<Facts, String> {
+        let graph = written.clone().grown();
         let solvable = fragments::solvable(&graph, &graph.dominance);
         if hypernormal::has_cycle(&graph) == solvable {
             return Err(format!("free fragments say solvable {solvable}, Section 7 does not"));
@@ -69,16 +73,18 @@ impl Facts {
         }
         let configuration = readings.first().map_or(Vec::new(), |first| rule1::configuration(&graph, first));
         Ok(Facts {
-            tidy: sheet::tidy(&graph),
+            tidy: sheet::tidy(written),
             table: sheet::table(&graph),
             solvable,
             total: if solvable { total(&graph, readings.len(), wanted) } else { Total::Exactly(0) },
             readings,
             configuration,
+            written: written.nodes(),
             graph,
         })
     }
 
+    /// The grown number of nodes.
     pub fn nodes(&self) -> usize {
         self.graph.nodes()
     }
@@ -118,8 +124,8 @@ impl Facts {
 impl Known {
     /// With the first readings worked out, as many as wanted; an error where the ways to solve a sheet part.
     pub fn new(bytes: &[u8], wanted: usize) -> Result<Known, String> {
-        let facts = match sheet::read(bytes) {
-            Ok(graph) => Ok(Facts::new(graph, wanted)?),
+        let facts = match sheet::written(bytes) {
+            Ok(written) => Ok(Facts::new(&written, wanted)?),
             Err(refused) => Err(refused),
         };
         Ok(Known { bytes: bytes.to_vec(), facts })
@@ -132,6 +138,10 @@ impl Known {
     /// The bytes that a reading is lent; some number where the sheet isn't well-formed.
     pub fn room(&self) -> usize {
         self.read().map_or(64, |facts| 2 * facts.nodes())
+    }
+
+    pub fn nodes(&self) -> Result<usize, Refused> {
+        self.read().map(Facts::nodes)
     }
 
     pub fn count(&self) -> Option<Result<Total, Refused>> {

@@ -15,10 +15,18 @@ fn told<T>(wanted: Result<T, Refused>, before: T) -> Told<T> {
 
 /// Each function once, lent enough or not.
 pub fn numbers(caller: &mut Caller) -> Compared {
+    nodes(caller)?;
     count(caller)?;
     placed(caller)?;
     lengths(caller)?;
     checks(caller)
+}
+
+fn nodes(caller: &mut Caller) -> Compared {
+    let before = caller.random.word();
+    let wanted = told(caller.known.nodes().map(|nodes| nodes as u64), before);
+    let given = raw::nodes(caller.sheet.lend(), before);
+    caller.told(given == wanted, "bixtogan_nodes, the number put", wanted, given)
 }
 
 fn count(caller: &mut Caller) -> Compared {

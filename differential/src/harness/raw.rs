@@ -7,6 +7,11 @@ pub type Told<T> = (u8, T);
 
 // Every pointer comes from a slice or a reference that lives as long as the call, with its length.
 
+pub fn nodes(sheet: &[u8], mut nodes: u64) -> Told<u64> {
+    let returned = unsafe { foreign::bixtogan_nodes(sheet.as_ptr(), sheet.len(), &mut nodes) };
+    (returned, nodes)
+}
+
 pub fn count(sheet: &[u8], mut readings: u64) -> Told<u64> {
     let returned = unsafe { foreign::bixtogan_count(sheet.as_ptr(), sheet.len(), &mut readings) };
     (returned, readings)

@@ -65,6 +65,7 @@ pub fn lengths(random: &mut Random, limit: usize) -> [usize; 6] {
 
 /// A sheet that isn't well-formed: each call gives its number, whatever is lent.
 fn refused(caller: &mut Caller) -> Compared {
+    caller.nodes()?;
     caller.count()?;
     for room in [0, caller.random.below(40), 256] {
         let place = caller.random.word();
@@ -153,11 +154,12 @@ fn several_in_turn(caller: &mut Caller, facts: &Facts) -> Compared {
     Ok(())
 }
 
-/// The count, and forged places and numbers.
+/// The numbers of nodes and of readings, and forged places and numbers.
 fn numbers(caller: &mut Caller, facts: &Facts) -> Compared {
     let enough = 2 * facts.nodes();
     let mut forged =
         vec![LAST, LAST + 1, u64::MAX, u64::MAX - 1, 1 << 32, (1 << 32) + 1, 1 << 63, caller.random.word()];
+    caller.nodes()?;
     if let Some(count) = facts.few() {
         forged.extend([count.saturating_sub(1), count, count + 1, count + 2, LAST - 1]);
     }
