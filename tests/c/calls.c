@@ -626,6 +626,7 @@ static void refusals(void)
         {"a byte after the end", BIXTOGAN_COMMAND, 7, {1, 2, 2, 0, 1, 0, 0}},
         {"1 node and no end", BIXTOGAN_MISSING, 2, {1, 1}},
         {"no nodes", BIXTOGAN_RANGE, 3, {1, 0, 0}},
+        {"no nodes and no end", BIXTOGAN_RANGE, 2, {1, 0}},
         {"129 nodes", BIXTOGAN_RANGE, 2, {1, 129}},
         {"a tree edge from a node to itself", BIXTOGAN_TREE, 6, {1, 2, 2, 0, 0, 0}},
         {"tree edges in a cycle", BIXTOGAN_TREE, 9, {1, 2, 2, 0, 1, 2, 1, 0, 0}},
