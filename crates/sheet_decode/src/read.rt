@@ -18,7 +18,7 @@ pub enum Decoded {
     Refused(Refusal),
 }
 
-// A dominance graph: of each node its parent (NONE: a root), of each leaf the set of roots that its dominance edges go to,
+// A graph: of each node its parent (NONE: a root), of each leaf the set of roots that its dominance edges go to,
 // as two words, and how many dominance edges there are. Two graphs with the same nodes and edges are the same value.
 pub struct Graph {
     pub n: usize,

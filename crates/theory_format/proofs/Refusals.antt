@@ -4,7 +4,7 @@ use Prim.Native.Nat.{ℕ, _≤_}
 use mathlib.Core.Path.{_≡_, refl, subst}
 use mathlib.Core.List.{List, [], _∷_}
 use mathlib.Core.Bool.{Bool, true, false, cond, _&&_, _||_}
-use mathlib.Core.Logic.{_⊎_, inl, inr}
+use mathlib.Core.Logic.{_⊎_, inl, inr, ⊎-elim}
 use native.Mathlib.Omega.{arith}
 use lib.Dec.{eqb, leb, ltb}
 use lib.ListN.{length}
@@ -81,30 +81,16 @@ not-9 k (inr (inr (inl b))) e = omega (arith, b, e)
 not-9 k (inr (inr (inr (inl b)))) e = omega (arith, b, e)
 not-9 k (inr (inr (inr (inr b)))) e = omega (arith, b, e)
 
--- 02, One: "Refusal 7 then no longer occurs"
-pub never-7 : (why : Refusal) → number why ≡ 7 → ⊥
-never-7 Missing e = omega arith
-never-7 Command e = omega arith
-never-7 Range e = omega arith
-never-7 Tree e = omega arith
-never-7 Ends e = omega arith
-never-7 TooMany e = omega arith
-never-7 NoReading e = omega arith
-never-7 SmallBuffer e = omega arith
-never-7 NoSuchReading e = omega arith
-never-7 TooLong e = omega arith
-never-7 Overgrown e = omega arith
-
--- 02, Two: "refusal 5 no longer occurs"
-pub never-5 : (why : Refusal) → number why ≡ 5 → ⊥
-never-5 Missing e = omega arith
-never-5 Command e = omega arith
-never-5 Range e = omega arith
-never-5 Tree e = omega arith
-never-5 Ends e = omega arith
-never-5 TooMany e = omega arith
-never-5 NoReading e = omega arith
-never-5 SmallBuffer e = omega arith
-never-5 NoSuchReading e = omega arith
-never-5 TooLong e = omega arith
-never-5 Overgrown e = omega arith
+-- 02, One: "Refusal 7 then no longer occurs"; Two: "refusal 5 no longer occurs"
+pub never-5-or-7 : (why : Refusal) → (number why ≡ 5) ⊎ (number why ≡ 7) → ⊥
+never-5-or-7 Missing = ⊎-elim (λ e. omega arith) (λ e. omega arith)
+never-5-or-7 Command = ⊎-elim (λ e. omega arith) (λ e. omega arith)
+never-5-or-7 Range = ⊎-elim (λ e. omega arith) (λ e. omega arith)
+never-5-or-7 Tree = ⊎-elim (λ e. omega arith) (λ e. omega arith)
+never-5-or-7 Ends = ⊎-elim (λ e. omega arith) (λ e. omega arith)
+never-5-or-7 TooMany = ⊎-elim (λ e. omega arith) (λ e. omega arith)
+never-5-or-7 NoReading = ⊎-elim (λ e. omega arith) (λ e. omega arith)
+never-5-or-7 SmallBuffer = ⊎-elim (λ e. omega arith) (λ e. omega arith)
+never-5-or-7 NoSuchReading = ⊎-elim (λ e. omega arith) (λ e. omega arith)
+never-5-or-7 TooLong = ⊎-elim (λ e. omega arith) (λ e. omega arith)
+never-5-or-7 Overgrown = ⊎-elim (λ e. omega arith) (λ e. omega arith)
