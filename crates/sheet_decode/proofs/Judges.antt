@@ -18,7 +18,7 @@ use Rattle.graph.specs.Graph.{Edge, Graph, among, entered, left, parent, root, 
 use Rattle.format.specs.Sheet.{overgrown, astray, whole, refused, accepted, content}
 use Rattle.format.specs.declared.Refusal.the-variants.{Tree, Ends, Overgrown}
 use Rattle.base_tables.specs.Tables.{Holds}
-use Rattle.base_tables.specs.Trees.{InnerSet, RootSet, innerIn, rootIn}
+use Rattle.base_tables.specs.Trees.{InnerSet, RootSet}
 use Rattle.sheet_grow.specs.Grow.{BareSet}
 use Rattle.sheet_grow.proofs.Grown.{bare-set, set-counted, bare-held, bare-counted}
 use Rattle.sheet_decode.specs.Judge.{risesIn, cyclicIn, strays, astrayIn}
@@ -69,80 +69,87 @@ module _ (n : ℕ) (t : List Edge) (parents : List ℕ) (few : n ≤ 128) (withi
 abbrev pub graphOf : ℕ → List Edge → List Edge → Graph
 graphOf n t d = record { nodes = n; tree = t; dominance = d }
 
-module _ (n : ℕ) (t d : List Edge) (parents low high : List ℕ) (edges : ℕ) (few : n ≤ 128) (holds : Holds n t d parents low high edges) where
-  pub cyclic-held : cyclicIn n parents ≡ cyclic (graphOf n t d)
+-- What is worked out of a table of parents: no cycle of tree edges, the inner nodes, the roots, and the nodes that are bare.
+pub record Sets (n : ℕ) (parents : List ℕ) : Type 0 where
+  pub few : n ≤ 128
+  pub no-cycle : cyclicIn n parents ≡ false
+  pub inner : NodeSet
+  pub roots : NodeSet
+  pub alone : NodeSet
+  pub is-inner : InnerSet n parents inner
+  pub is-roots : RootSet n parents roots
+  pub is-alone : Difference roots inner alone
+
+module _ {n : ℕ} {t d : List Edge} {parents low high : List ℕ} {edges : ℕ} (holds : Holds n t d parents low high edges) where
+  abbrev g : Graph
+  g = graphOf n t d
+
+  cyclic-held : n ≤ 128 → cyclicIn n parents ≡ cyclic g
   unfolding cyclicIn cyclic
-  cyclic-held = any-ext n (risesIn n parents) (rises n t) (rises-held n t parents few (holds .tree-within) (holds .parent-is) n)
+  cyclic-held few = any-ext n (risesIn n parents) (rises n t) (rises-held n t parents few (holds .tree-within) (holds .parent-is) n)
 
-  inner-is : (v : ℕ) → v < n → innerIn n parents v ≡ left t v
-  inner-is = inner-held n t parents few (holds .tree-within) (holds .parent-is) (holds .one-parent)
+  -- 4
+  pub whole-tree : n ≤ 128 → cyclicIn n parents ≡ true → whole g ≡ refused Tree
+  unfolding whole
+  whole-tree few e = let found : cyclic g ≡ true = sym (cyclic-held few) ∙ e in rw found
 
-  root-is : (v : ℕ) → rootIn n parents v ≡ root (graphOf n t d) v
-  unfolding root
-  root-is = root-held n t parents few (holds .tree-within) (holds .parent-is)
+  module _ (s : Sets n parents) where
+    few : n ≤ 128
+    few = s .few
 
-  root-of-node : (v : ℕ) → v < n → root (graphOf n t d) v ≡ not (entered t v)
-  unfolding root
-  root-of-node v h = rw (lt-ltb v n h)
+    acyclic : cyclic g ≡ false
+    acyclic = sym (cyclic-held few) ∙ s .no-cycle
 
-  module _ (inner roots both : NodeSet) (is-inner : InnerSet n parents inner) (is-roots : RootSet n parents roots) (is : Difference roots inner both) where
-    bare-is : BareSet n parents both
-    bare-is = bare-set n parents inner roots both is-inner is-roots is
+    inner-is : (v : ℕ) → v < n → mem (s .inner) v ≡ left t v
+    inner-is v h = s .is-inner v (omega (arith, h, few)) ∙ inner-held n t parents few (holds .tree-within) (holds .parent-is) (holds .one-parent) v h
 
-    -- the grown number, with k of them
-    module _ (k : ℕ) (counted : k ≡ count 128 (mem both)) where
-      number : n + k ≡ grown (graphOf n t d) .nodes
-      number = ap (λ (m : ℕ). n + m) (counted ∙ set-counted n parents both bare-is) ∙ bare-counted (graphOf n t d) few parents low high edges holds
+    root-is : (v : ℕ) → v < n → mem (s .roots) v ≡ not (entered t v)
+    root-is v h = s .is-roots v ∙ root-held n t parents few (holds .tree-within) (holds .parent-is) v ∙ rw (lt-ltb v n h)
 
-      pub overgrown-held : 128 < n + k → overgrown (graphOf n t d) ≡ true
-      unfolding overgrown
-      overgrown-held h = lt-ltb 128 (grown (graphOf n t d) .nodes) (omega (arith, h, number))
-
-      pub not-overgrown-held : n + k ≤ 128 → overgrown (graphOf n t d) ≡ false
-      unfolding overgrown
-      not-overgrown-held h = le-ltb 128 (grown (graphOf n t d) .nodes) (omega (arith, h, number))
+    bare-is : BareSet n parents (s .alone)
+    bare-is = bare-set n parents (s .inner) (s .roots) (s .alone) (s .is-inner) (s .is-roots) (s .is-alone)
 
     -- with their leaves, bare nodes are inner nodes
-    inner-grown : (more : NodeSet) → Union inner both more → (l : ℕ) → l < n → leaf (grown (graphOf n t d)) l ≡ not (mem more l)
-    inner-grown more m l h =
-        let same : mem more l ≡ (left t l || bare (graphOf n t d) l) =
-        m l ∙ ap₂ _||_ (is-inner l (omega arith) ∙ inner-is l h) (bare-is l (omega arith) ∙ bare-held (graphOf n t d) few parents low high edges holds l h) in
-        leaf-grown (graphOf n t d) l h ∙ ap not (sym same)
+    leaf-is : (more : NodeSet) → Union (s .inner) (s .alone) more → (l : ℕ) → l < n → leaf (grown g) l ≡ not (mem more l)
+    leaf-is more m l h =
+        let same : mem more l ≡ (left t l || bare g l) = m l ∙ ap₂ _||_ (inner-is l h) (bare-is l (omega (arith, h, few)) ∙ bare-held g few parents low high edges holds l h) in
+        leaf-grown g l h ∙ ap not (sym same)
 
-    root-still : (r : ℕ) → r < n → root (grown (graphOf n t d)) r ≡ mem roots r
-    root-still r h = root-grown (graphOf n t d) r h ∙ sym (is-roots r ∙ root-is r ∙ root-of-node r h)
-
-    pub astray-held : (more : NodeSet) → Union inner both more → astrayIn n low high more roots ≡ astray (grown (graphOf n t d))
+    astray-held : (more : NodeSet) → Union (s .inner) (s .alone) more → astrayIn n low high more (s .roots) ≡ astray (grown g)
     unfolding astrayIn astray
     astray-held more m =
-        let g : Graph = grown (graphOf n t d) in
-        let test : ℕ → ℕ → Bool = λ l r. among d l r && not (leaf g l && root g r) in
-        let edge : (l r : ℕ) → test l r ≡ true → (l < n) × (r < n) = λ l r e. holds .dominance-within l r (and-both (among d l r) (not (leaf g l && root g r)) e .0) in
-        let row : ℕ → ℕ → Bool = λ l r. member (getD low l 0) (getD high l 0) r && not (not (mem more l) && mem roots r) in
-        let all : ℕ = g .nodes in
+        let test : ℕ → ℕ → Bool = λ l r. among d l r && not (leaf (grown g) l && root (grown g) r) in
+        let edge : (l r : ℕ) → test l r ≡ true → (l < n) × (r < n) = λ l r e. holds .dominance-within l r (and-both (among d l r) (not (leaf (grown g) l && root (grown g) r)) e .0) in
+        let row : ℕ → ℕ → Bool = λ l r. member (getD low l 0) (getD high l 0) r && not (not (mem more l) && mem (s .roots) r) in
+        let all : ℕ = grown g .nodes in
         any-ext n _ _ (λ l hl.
         any-cut 128 n (row l) few (λ r h e.
-        let held : member (getD low l 0) (getD high l 0) r ≡ true = and-both (member (getD low l 0) (getD high l 0) r) (not (not (mem more l) && mem roots r)) e .0 in
+        let held : member (getD low l 0) (getD high l 0) r ≡ true = and-both (member (getD low l 0) (getD high l 0) r) (not (not (mem more l) && mem (s .roots) r)) e .0 in
         holds .dominance-within l r (sym (holds .heads-are l r) ∙ held) .1)
-        ∙ any-ext n (row l) (test l) (λ r hr. rw (holds .heads-are l r, inner-grown more m l hl, root-still r hr))
+        ∙ any-ext n (row l) (test l) (λ r hr. rw (holds .heads-are l r, leaf-is more m l hl, root-grown g r hr, root-is r hr))
         ∙ sym (any-cut all n (test l) (omega arith) (λ r h e. edge l r e .1)))
         ∙ sym (any-cut all n (λ l. any all (test l)) (omega arith) (λ l h e. let r = any-found all (test l) e in edge l (r .0) (r .2) .0))
 
--- the first test to hold decides
+    -- so many are bare
+    module _ (k : ℕ) (counted : k ≡ count 128 (mem (s .alone))) where
+      number : n + k ≡ grown g .nodes
+      number = ap (λ (m : ℕ). n + m) (counted ∙ set-counted n parents (s .alone) bare-is) ∙ bare-counted g few parents low high edges holds
 
-module _ (g : Graph) where
-  pub whole-tree : cyclic g ≡ true → whole g ≡ refused Tree
-  unfolding whole
-  whole-tree e = rw e
+      -- 13
+      pub whole-overgrown : 128 < n + k → whole g ≡ refused Overgrown
+      unfolding whole overgrown
+      whole-overgrown h = rw (acyclic, lt-ltb 128 (grown g .nodes) (omega (arith, h, number)))
 
-  pub whole-overgrown : cyclic g ≡ false → overgrown g ≡ true → whole g ≡ refused Overgrown
-  unfolding whole
-  whole-overgrown e f = rw (e, f)
+      module _ (fits : n + k ≤ 128) (more : NodeSet) (m : Union (s .inner) (s .alone) more) where
+        not-overgrown : overgrown g ≡ false
+        unfolding overgrown
+        not-overgrown = le-ltb 128 (grown g .nodes) (omega (arith, fits, number))
 
-  pub whole-ends : cyclic g ≡ false → overgrown g ≡ false → astray (grown g) ≡ true → whole g ≡ refused Ends
-  unfolding whole
-  whole-ends e f h = rw (e, f, h)
+        -- 6
+        pub whole-ends : astrayIn n low high more (s .roots) ≡ true → whole g ≡ refused Ends
+        unfolding whole
+        whole-ends e = let found : astray (grown g) ≡ true = sym (astray-held more m) ∙ e in rw (acyclic, not-overgrown, found)
 
-  pub whole-accepted : cyclic g ≡ false → overgrown g ≡ false → astray (grown g) ≡ false → whole g ≡ accepted (content g)
-  unfolding whole
-  whole-accepted e f h = rw (e, f, h)
+        pub whole-accepted : astrayIn n low high more (s .roots) ≡ false → whole g ≡ accepted (content g)
+        unfolding whole
+        whole-accepted e = let found : astray (grown g) ≡ false = sym (astray-held more m) ∙ e in rw (acyclic, not-overgrown, found)

@@ -1,9 +1,9 @@
 use mathlib.Core.Path.{sym, _∙_}
 use native.Mathlib.Omega.{arith}
-use denote.Ref.{now}
 use Rattle.base_finite.proofs.Laws.{count-le}
 use Rattle.base_nodeset.specs.Set.{mem}
-use Rattle.sheet_decode.proofs.Judges.{graphOf, cyclic-held, overgrown-held, not-overgrown-held, astray-held, whole-tree, whole-overgrown, whole-ends, whole-accepted}
+use Rattle.sheet_decode.proofs.Judges.{Sets, whole-tree, whole-overgrown, whole-ends, whole-accepted}
+use denote.Ref.{now}
 use borrow.Author.Needs.{needs}
 use Rattle.sheet_decode.proofs.judge.judge.Statement.{statement}
 use Rattle.sheet_decode.proofs.judge.judge.Tie as tie
@@ -12,10 +12,7 @@ cyclic-requires : tie.Need-cyclic-requires
 cyclic-requires c κs = search needs
 
 returns : tie.Need-returns
-returns c t d edges h =
-    let s = c .before .before .before .before .before in
-    let a = s .args in
-    whole-tree (graphOf (a .n) t d) (sym (cyclic-held (a .n) t d (now (a .parent)) (now (a .low)) (now (a .high)) edges (s .pre .0 .few) h) ∙ sym (c .before .cyclic .ensures) ∙ c .if1 .taken)
+returns c t d edges h = whole-tree h (c .before .before .before .before .before .pre .0 .few) (sym (c .before .cyclic .ensures) ∙ c .if1 .taken)
 
 inner-nodes-requires : tie.Need-inner-nodes-requires
 inner-nodes-requires c κs = search needs
@@ -37,13 +34,19 @@ add-if2 c =
 returns-2 : tie.Need-returns-2
 returns-2 c t d edges h =
     let k = c .before in
-    let both = k .before in
-    let roots = both .before in
-    let inner = roots .before in
+    let inner = k .before .before .before in
     let s = inner .before .before .before .before .before .before in
-    let a = s .args in
-    let no-cycle = sym (cyclic-held (a .n) t d (now (a .parent)) (now (a .low)) (now (a .high)) edges (s .pre .0 .few) h) ∙ sym (inner .before .before .cyclic .ensures) ∙ inner .before .if1 .left in
-    whole-overgrown (graphOf (a .n) t d) no-cycle (overgrown-held (a .n) t d (now (a .parent)) (now (a .low)) (now (a .high)) edges (s .pre .0 .few) h (inner .inner-nodes .result) (roots .root-nodes .result) (both .difference .result) (inner .inner-nodes .ensures) (roots .root-nodes .ensures) (both .difference .ensures) (k .count .result) (k .count .ensures) (omega (arith, c .if2 .taken)))
+    let sets : Sets (s .args .n) (now (s .args .parent)) = record {
+      few = s .pre .0 .few;
+      no-cycle = sym (inner .before .before .cyclic .ensures) ∙ inner .before .if1 .left;
+      inner = inner .inner-nodes .result;
+      roots = k .before .before .root-nodes .result;
+      alone = k .before .difference .result;
+      is-inner = inner .inner-nodes .ensures;
+      is-roots = k .before .before .root-nodes .ensures;
+      is-alone = k .before .difference .ensures;
+    } in
+    whole-overgrown h sets (k .count .result) (k .count .ensures) (omega (arith, c .if2 .taken))
 
 union-requires : tie.Need-union-requires
 union-requires c κs = search needs
@@ -54,28 +57,36 @@ astray-requires c κs = search needs
 returns-3 : tie.Need-returns-3
 returns-3 c t d edges h =
     let k = c .before .before .before .before in
-    let both = k .before in
-    let roots = both .before in
-    let inner = roots .before in
+    let inner = k .before .before .before in
     let s = inner .before .before .before .before .before .before in
-    let a = s .args in
-    let no-cycle = sym (cyclic-held (a .n) t d (now (a .parent)) (now (a .low)) (now (a .high)) edges (s .pre .0 .few) h) ∙ sym (inner .before .before .cyclic .ensures) ∙ inner .before .if1 .left in
-    let found = astray-held (a .n) t d (now (a .parent)) (now (a .low)) (now (a .high)) edges (s .pre .0 .few) h (inner .inner-nodes .result) (roots .root-nodes .result) (both .difference .result) (inner .inner-nodes .ensures) (roots .root-nodes .ensures) (both .difference .ensures) (c .before .before .union .result) (c .before .before .union .ensures) in
-    let fits = not-overgrown-held (a .n) t d (now (a .parent)) (now (a .low)) (now (a .high)) edges (s .pre .0 .few) h (inner .inner-nodes .result) (roots .root-nodes .result) (both .difference .result) (inner .inner-nodes .ensures) (roots .root-nodes .ensures) (both .difference .ensures) (k .count .result) (k .count .ensures) (omega (arith, c .before .before .before .if2 .left)) in
-    whole-ends (graphOf (a .n) t d) no-cycle fits (sym found ∙ sym (c .before .astray .ensures) ∙ c .if3 .taken)
+    let sets : Sets (s .args .n) (now (s .args .parent)) = record {
+      few = s .pre .0 .few;
+      no-cycle = sym (inner .before .before .cyclic .ensures) ∙ inner .before .if1 .left;
+      inner = inner .inner-nodes .result;
+      roots = k .before .before .root-nodes .result;
+      alone = k .before .difference .result;
+      is-inner = inner .inner-nodes .ensures;
+      is-roots = k .before .before .root-nodes .ensures;
+      is-alone = k .before .difference .ensures;
+    } in
+    whole-ends h sets (k .count .result) (k .count .ensures) (omega (arith, c .before .before .before .if2 .left)) _ (c .before .before .union .ensures) (sym (c .before .astray .ensures) ∙ c .if3 .taken)
 
 returns-4 : tie.Need-returns-4
 returns-4 c t d edges h =
     let k = c .before .before .before .before in
-    let both = k .before in
-    let roots = both .before in
-    let inner = roots .before in
+    let inner = k .before .before .before in
     let s = inner .before .before .before .before .before .before in
-    let a = s .args in
-    let no-cycle = sym (cyclic-held (a .n) t d (now (a .parent)) (now (a .low)) (now (a .high)) edges (s .pre .0 .few) h) ∙ sym (inner .before .before .cyclic .ensures) ∙ inner .before .if1 .left in
-    let found = astray-held (a .n) t d (now (a .parent)) (now (a .low)) (now (a .high)) edges (s .pre .0 .few) h (inner .inner-nodes .result) (roots .root-nodes .result) (both .difference .result) (inner .inner-nodes .ensures) (roots .root-nodes .ensures) (both .difference .ensures) (c .before .before .union .result) (c .before .before .union .ensures) in
-    let fits = not-overgrown-held (a .n) t d (now (a .parent)) (now (a .low)) (now (a .high)) edges (s .pre .0 .few) h (inner .inner-nodes .result) (roots .root-nodes .result) (both .difference .result) (inner .inner-nodes .ensures) (roots .root-nodes .ensures) (both .difference .ensures) (k .count .result) (k .count .ensures) (omega (arith, c .before .before .before .if2 .left)) in
-    whole-accepted (graphOf (a .n) t d) no-cycle fits (sym found ∙ sym (c .before .astray .ensures) ∙ c .if3 .left)
+    let sets : Sets (s .args .n) (now (s .args .parent)) = record {
+      few = s .pre .0 .few;
+      no-cycle = sym (inner .before .before .cyclic .ensures) ∙ inner .before .if1 .left;
+      inner = inner .inner-nodes .result;
+      roots = k .before .before .root-nodes .result;
+      alone = k .before .difference .result;
+      is-inner = inner .inner-nodes .ensures;
+      is-roots = k .before .before .root-nodes .ensures;
+      is-alone = k .before .difference .ensures;
+    } in
+    whole-accepted h sets (k .count .result) (k .count .ensures) (omega (arith, c .before .before .before .if2 .left)) _ (c .before .before .union .ensures) (sym (c .before .astray .ensures) ∙ c .if3 .left)
 
 pub judge-spec : {M : Type 1} → statement M
 judge-spec =
