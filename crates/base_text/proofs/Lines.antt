@@ -20,7 +20,7 @@ use Rattle.graph.specs.Placing.{at}
 use Rattle.format.specs.Refusal.{number}
 use Rattle.format.specs.Text.{decimal, line, readings-word, more-than-words, refused-word, countLine, readingLine, refusedLine}
 use Rattle.format.specs.declared.Refusal.{Refusal}
-use Rattle.format.specs.declared.Refusal.the-variants.{Missing, Command, Range, Tree, Ends, TooMany, NoReading, SmallBuffer, NoSuchReading, TooLong, Overgrown}
+use Rattle.format.specs.declared.Refusal.the-variants.{Missing, Command, Range, Tree, Ends, TooMany, NoReading, SmallBuffer, NoSuchReading, TooLong, Overgrown, Label, Overlap, Hole}
 use Rattle.graph.specs.declared.Count.{Count}
 use Rattle.graph.specs.declared.Count.the-variants.{Exactly, More}
 use Rattle.base_text.specs.Lines.{pair, hungAt, hungIn, lineIn, hexBytes, hexLine}
@@ -46,6 +46,9 @@ refusal-number SmallBuffer = omega arith
 refusal-number NoSuchReading = omega arith
 refusal-number TooLong = omega arith
 refusal-number Overgrown = omega arith
+refusal-number Label = omega arith
+refusal-number Overlap = omega arith
+refusal-number Hole = omega arith
 
 pub refused-is : (why : Refusal) (k : ℕ) → k ≡ number why → refusedLine why ≡ line (refused-word ++ decimal k)
 unfolding refusedLine

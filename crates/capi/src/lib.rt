@@ -10,7 +10,8 @@ use capi_put::put_placing;
 use capi_put::put_table;
 use capi_put::put_tidied;
 use counter::Place;
-ghost use Rattle.format.specs.Sheet.{outcome};
+ghost use Rattle.format.specs.Sheet.{outcomeOf, outcome};
+ghost use Rattle.format.specs.declared.Form.the-variants.{Labelled};
 ghost use Rattle.capi.specs.Interface.{CountTold, ReadingTold, ReadingsTold, ConfigurationTold, DrawingTold, NodesTold, TidyTold, FragmentsTold, CycleTold, PlacingTold};
 
 #[no_mangle]
@@ -99,6 +100,16 @@ pub extern "C" fn bixtogan_tidy(sheet: &[u8], out: &mut [u8], written: &mut u64)
         ⌝ }
 {
     let answer = counter::tidy(sheet, out);
+    put_tidied(answer, written)
+}
+
+#[no_mangle]
+pub extern "C" fn bixtogan_labelled(sheet: &[u8], out: &mut [u8], written: &mut u64) -> u8
+    ensures { λ r. ⌜
+        TidyTold (outcomeOf Labelled (now (sheet .entry))) r (now (out .entry)) (now (out .exit)) (now (written .entry)) (now (written .exit))
+        ⌝ }
+{
+    let answer = counter::labelled(sheet, out);
     put_tidied(answer, written)
 }
 

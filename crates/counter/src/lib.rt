@@ -1,5 +1,6 @@
 // The calls that are open to callers. Nothing is asked of what is lent: each call tests its own input.
 use check_cycle::check;
+use format::Form;
 use format::Refusal;
 use graph::Fragment;
 use sheet_decode::judge::Verdict;
@@ -20,7 +21,8 @@ use solve_answer::count_of;
 use solve_answer::drawing_of;
 use solve_answer::readings_of;
 ghost use mathlib.Core.Path.{_≡_};
-ghost use Rattle.format.specs.Sheet.{outcome};
+ghost use Rattle.format.specs.Sheet.{outcomeOf, outcome};
+ghost use Rattle.format.specs.declared.Form.the-variants.{Labelled};
 ghost use Rattle.sheet_encode.specs.Tidy.{Tidies};
 ghost use Rattle.sheet_fragments.specs.Table.{Tabled};
 ghost use Rattle.sheet_fragments.specs.Records.{Recorded};
@@ -196,7 +198,15 @@ pub fn tidy(sheet: &[u8], out: &mut [u8]) -> Tidied
     ensures { λ r. ⌜ Tidies (outcome (now (sheet .entry))) r (now (out .entry)) (now (out .exit)) ⌝ }
     ensures { λ r. ⌜ TidyNumbered (now (out .entry)) (outcome (now (sheet .entry))) (tidiedNumber r) ⌝ }
 {
-    sheet_encode::tidy(sheet, out)
+    sheet_encode::tidy(Form::Plain, sheet, out)
+}
+
+// The tidy plain sheet of a labelled one: the dominance graph of its constraint.
+pub fn labelled(sheet: &[u8], out: &mut [u8]) -> Tidied
+    ensures { λ r. ⌜ Tidies (outcomeOf Labelled (now (sheet .entry))) r (now (out .entry)) (now (out .exit)) ⌝ }
+    ensures { λ r. ⌜ TidyNumbered (now (out .entry)) (outcomeOf Labelled (now (sheet .entry))) (tidiedNumber r) ⌝ }
+{
+    sheet_encode::tidy(Form::Labelled, sheet, out)
 }
 
 // One record per fragment, three bytes each: root, lowest leaf, number of leaves.

@@ -6,7 +6,7 @@ use mathlib.Core.List.{[], _∷_}
 use lib.ListN.{replicate}
 use Rattle.base_finite.specs.Below.{any, count, spread, select}
 use Rattle.graph.specs.Graph.{Graph, among, different, entered, left, root, leaf, parent, top, own, leafOf, rises, cyclic, bare, addedLeaf, grownTree}
-use Rattle.format.specs.Sheet.{refused, accepted, content, overgrown, astray, whole, takesTwo, beyond, commands, allCommands, longest, outcome, tidyTree, tidyDominance, tidy}
+use Rattle.format.specs.Sheet.{refused, accepted, content, overgrown, astray, fitted, whole, takesTwo, takesNone, beyond, commands, allCommands, longest, outcomeOf, outcome, tidyTree, tidyDominance, tidy}
 use Rattle.graph.specs.Placing.{hangs}
 use Rattle.format.specs.Text.{digits, decimal, readingLine}
 use Rattle.format.specs.Drawing.{separated, leafText, fragmentText, drawing}
@@ -28,35 +28,35 @@ first-line = refl
 
 -- The order of refusals: operands are missed before they are out of range.
 nothing : outcome [] ≡ refused Missing
-unfolding outcome allCommands
+unfolding outcomeOf allCommands
 nothing = refl
 
 unknown-first : outcome (5 ∷ []) ≡ refused Command
-unfolding outcome allCommands
+unfolding outcomeOf allCommands
 unknown-first = refl
 
 too-many-nodes : outcome (1 ∷ 129 ∷ []) ≡ refused Range
-unfolding outcome allCommands
+unfolding outcomeOf allCommands
 too-many-nodes = refl
 
 most-nodes : outcome (1 ∷ 128 ∷ []) ≡ refused Missing
-unfolding outcome allCommands commands
+unfolding outcomeOf allCommands commands
 most-nodes = refl
 
 no-nodes : outcome (1 ∷ 0 ∷ []) ≡ refused Range
-unfolding outcome allCommands
+unfolding outcomeOf allCommands
 no-nodes = refl
 
 one-node : outcome (1 ∷ 1 ∷ []) ≡ refused Missing
-unfolding outcome allCommands commands
+unfolding outcomeOf allCommands commands
 one-node = refl
 
 operand-missing-first : outcome (1 ∷ 2 ∷ 2 ∷ 9 ∷ []) ≡ refused Missing
-unfolding outcome allCommands commands takesTwo
+unfolding outcomeOf allCommands commands takesTwo takesNone
 operand-missing-first = refl
 
 astray-edge : outcome (1 ∷ 2 ∷ 2 ∷ 0 ∷ 1 ∷ 3 ∷ 0 ∷ 0 ∷ 0 ∷ []) ≡ refused Ends
-unfolding outcome allCommands commands takesTwo beyond whole cyclic rises overgrown bare addedLeaf grownTree count astray among different entered left parent root leaf any
+unfolding outcomeOf allCommands commands takesTwo takesNone beyond whole fitted cyclic rises overgrown bare addedLeaf grownTree count astray among different entered left parent root leaf any
 astray-edge = refl
 
 -- the tidy sheet of the chain's first fragment, whatever the order of its commands
@@ -70,7 +70,7 @@ one-edge : Graph
 one-edge = record { nodes = 4; tree = (2, 3) ∷ (0, 1) ∷ []; dominance = (1, 2) ∷ [] }
 
 read-once : outcome (1 ∷ 4 ∷ 2 ∷ 0 ∷ 1 ∷ 2 ∷ 2 ∷ 3 ∷ 3 ∷ 1 ∷ 2 ∷ 3 ∷ 1 ∷ 2 ∷ 0 ∷ []) ≡ accepted (content one-edge)
-unfolding one-edge outcome allCommands commands takesTwo beyond whole cyclic rises overgrown bare addedLeaf grownTree count astray among different entered left parent root leaf any
+unfolding one-edge outcomeOf allCommands commands takesTwo takesNone beyond whole fitted cyclic rises overgrown bare addedLeaf grownTree count astray among different entered left parent root leaf any
 read-once = refl
 
 -- the other edges stay
@@ -78,7 +78,7 @@ two-edges : Graph
 two-edges = record { nodes = 4; tree = (2, 3) ∷ (0, 1) ∷ []; dominance = (1, 2) ∷ (3, 0) ∷ [] }
 
 others-kept : outcome (1 ∷ 4 ∷ 2 ∷ 0 ∷ 1 ∷ 2 ∷ 2 ∷ 3 ∷ 3 ∷ 3 ∷ 0 ∷ 3 ∷ 1 ∷ 2 ∷ 3 ∷ 3 ∷ 0 ∷ 0 ∷ []) ≡ accepted (content two-edges)
-unfolding two-edges outcome allCommands commands takesTwo beyond whole cyclic rises overgrown bare addedLeaf grownTree count astray among different entered left parent root leaf any
+unfolding two-edges outcomeOf allCommands commands takesTwo takesNone beyond whole fitted cyclic rises overgrown bare addedLeaf grownTree count astray among different entered left parent root leaf any
 others-kept = refl
 
 tidied-once : tidy one-edge ≡ 1 ∷ 4 ∷ 2 ∷ 0 ∷ 1 ∷ 2 ∷ 2 ∷ 3 ∷ 3 ∷ 1 ∷ 2 ∷ 0 ∷ []
@@ -87,20 +87,20 @@ tidied-once = refl
 
 -- a tree edge twice is 4, and a repeat of an edge that is astray is 6
 tree-edge-twice : outcome (1 ∷ 4 ∷ 2 ∷ 0 ∷ 1 ∷ 2 ∷ 0 ∷ 1 ∷ 2 ∷ 2 ∷ 3 ∷ 0 ∷ []) ≡ refused Tree
-unfolding outcome allCommands commands takesTwo beyond entered
+unfolding outcomeOf allCommands commands takesTwo takesNone beyond entered
 tree-edge-twice = refl
 
 astray-twice : outcome (1 ∷ 4 ∷ 2 ∷ 0 ∷ 1 ∷ 2 ∷ 2 ∷ 3 ∷ 3 ∷ 0 ∷ 2 ∷ 3 ∷ 0 ∷ 2 ∷ 0 ∷ []) ≡ refused Ends
-unfolding outcome allCommands commands takesTwo beyond whole cyclic rises overgrown bare addedLeaf grownTree count astray among different entered left parent root leaf any
+unfolding outcomeOf allCommands commands takesTwo takesNone beyond whole fitted cyclic rises overgrown bare addedLeaf grownTree count astray among different entered left parent root leaf any
 astray-twice = refl
 
 -- 2,048 zeros are 2, and one more is 12
 zeros-read : outcome (replicate longest 0) ≡ refused Command
-unfolding outcome allCommands
+unfolding outcomeOf allCommands
 zeros-read = refl
 
 zeros-too-long : outcome (replicate (suc longest) 0) ≡ refused TooLong
-unfolding outcome
+unfolding outcomeOf
 zeros-too-long = refl
 
 -- 02, Two: a node alone is a fragment with a leaf added, which tidying does not write
@@ -108,7 +108,7 @@ word : Graph
 word = record { nodes = 1; tree = []; dominance = [] }
 
 word-read : outcome (1 ∷ 1 ∷ 0 ∷ []) ≡ accepted (content word)
-unfolding word outcome allCommands commands takesTwo whole cyclic rises overgrown bare addedLeaf grownTree count astray among entered left any
+unfolding word outcomeOf allCommands commands takesTwo takesNone whole fitted cyclic rises overgrown bare addedLeaf grownTree count astray among entered left any
 word-read = refl
 
 word-tidy : tidy word ≡ 1 ∷ 1 ∷ 0 ∷ []
@@ -117,28 +117,28 @@ word-tidy = refl
 
 -- 64 nodes alone are 128 with their leaves; 65 are 13, also where an edge is astray, and after a cycle of tree edges
 words-64 : outcome (1 ∷ 64 ∷ 0 ∷ []) ≡ accepted (content (record { nodes = 64; tree = []; dominance = [] }))
-unfolding outcome allCommands commands takesTwo whole cyclic rises overgrown bare addedLeaf grownTree count astray among entered left any
+unfolding outcomeOf allCommands commands takesTwo takesNone whole fitted cyclic rises overgrown bare addedLeaf grownTree count astray among entered left any
 words-64 = refl
 
 words-65 : outcome (1 ∷ 65 ∷ 0 ∷ []) ≡ refused Overgrown
-unfolding outcome allCommands commands takesTwo whole cyclic rises overgrown bare addedLeaf count entered left any
+unfolding outcomeOf allCommands commands takesTwo takesNone whole fitted cyclic rises overgrown bare addedLeaf count entered left any
 words-65 = refl
 
 overgrown-before-astray : outcome (1 ∷ 65 ∷ 3 ∷ 0 ∷ 0 ∷ 0 ∷ []) ≡ refused Overgrown
-unfolding outcome allCommands commands takesTwo beyond whole cyclic rises overgrown bare addedLeaf count among different entered left any
+unfolding outcomeOf allCommands commands takesTwo takesNone beyond whole fitted cyclic rises overgrown bare addedLeaf count among different entered left any
 overgrown-before-astray = refl
 
 tree-loop-before-overgrown : outcome (1 ∷ 67 ∷ 2 ∷ 0 ∷ 1 ∷ 2 ∷ 1 ∷ 0 ∷ 0 ∷ []) ≡ refused Tree
-unfolding outcome allCommands commands takesTwo beyond whole cyclic rises entered parent any
+unfolding outcomeOf allCommands commands takesTwo takesNone beyond whole cyclic rises overgrown bare count entered left parent any
 tree-loop-before-overgrown = refl
 
 -- an edge from a node alone is astray, even to itself, and its leaf cannot be named
 word-astray : outcome (1 ∷ 1 ∷ 3 ∷ 0 ∷ 0 ∷ 0 ∷ []) ≡ refused Ends
-unfolding outcome allCommands commands takesTwo beyond whole cyclic rises overgrown bare addedLeaf grownTree count astray among different entered left parent root leaf any
+unfolding outcomeOf allCommands commands takesTwo takesNone beyond whole fitted cyclic rises overgrown bare addedLeaf grownTree count astray among different entered left parent root leaf any
 word-astray = refl
 
 leaf-unnamed : outcome (1 ∷ 1 ∷ 3 ∷ 1 ∷ 0 ∷ 0 ∷ []) ≡ refused Range
-unfolding outcome allCommands commands takesTwo beyond
+unfolding outcomeOf allCommands commands takesTwo takesNone beyond
 leaf-unnamed = refl
 
 -- two sheets that mean one graph, and have two tidy forms
@@ -149,11 +149,11 @@ fragments : Graph
 fragments = record { nodes = 4; tree = (1, 3) ∷ (0, 2) ∷ []; dominance = [] }
 
 words-read : outcome (1 ∷ 2 ∷ 0 ∷ []) ≡ accepted (content words)
-unfolding words outcome allCommands commands takesTwo whole cyclic rises overgrown bare addedLeaf grownTree count astray among entered left any
+unfolding words outcomeOf allCommands commands takesTwo takesNone whole fitted cyclic rises overgrown bare addedLeaf grownTree count astray among entered left any
 words-read = refl
 
 fragments-read : outcome (1 ∷ 4 ∷ 2 ∷ 0 ∷ 2 ∷ 2 ∷ 1 ∷ 3 ∷ 0 ∷ []) ≡ accepted (content fragments)
-unfolding fragments outcome allCommands commands takesTwo beyond whole cyclic rises overgrown bare addedLeaf grownTree count astray among entered left parent any
+unfolding fragments outcomeOf allCommands commands takesTwo takesNone beyond whole fitted cyclic rises overgrown bare addedLeaf grownTree count astray among entered left parent any
 fragments-read = refl
 
 one-graph : content words .graph ≡ content fragments .graph

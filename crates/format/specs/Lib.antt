@@ -1,4 +1,5 @@
 pub mod Refusal
 pub mod Sheet
+pub mod Labelled
 pub mod Text
 pub mod Drawing

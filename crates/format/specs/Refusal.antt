@@ -2,7 +2,7 @@
 -- occurs", and Two: "refusal 5 no longer occurs").
 use Prim.Native.Nat.{ℕ}
 use Rattle.format.specs.declared.Refusal.{Refusal}
-use Rattle.format.specs.declared.Refusal.the-variants.{Missing, Command, Range, Tree, Ends, TooMany, NoReading, SmallBuffer, NoSuchReading, TooLong, Overgrown}
+use Rattle.format.specs.declared.Refusal.the-variants.{Missing, Command, Range, Tree, Ends, TooMany, NoReading, SmallBuffer, NoSuchReading, TooLong, Overgrown, Label, Overlap, Hole}
 
 abbrev pub number : Refusal → ℕ
 -- a needed byte is missing
@@ -27,3 +27,9 @@ number NoSuchReading = 11
 number TooLong = 12
 -- the grown number of nodes exceeds 128
 number Overgrown = 13
+-- a node is labelled twice, or its children don't fit its symbol
+number Label = 14
+-- two labelled nodes may overlap
+number Overlap = 15
+-- a dominance edge from a labelled leaf, or an unlabelled node without tree edges
+number Hole = 16

@@ -19,6 +19,15 @@ pub enum Refusal {
     NoSuchReading,
     TooLong,
     Overgrown,
+    Label,
+    Overlap,
+    Hole,
+}
+
+// The forms of a sheet: what differs is which commands are in place.
+pub enum Form {
+    Plain,
+    Labelled,
 }
 
 // The number that the documents give to each refusal.
@@ -37,5 +46,8 @@ pub fn number(why: Refusal) -> u8
         Refusal::NoSuchReading => 11,
         Refusal::TooLong => 12,
         Refusal::Overgrown => 13,
+        Refusal::Label => 14,
+        Refusal::Overlap => 15,
+        Refusal::Hole => 16,
     }
 }

@@ -2,11 +2,12 @@
 -- The chain of two is the document's; the others are its smallest sheets.
 use Prim.Native.Nat.{ℕ}
 use mathlib.Core.Path.{_≡_, refl}
-use mathlib.Core.List.{List, [], _∷_}
+use mathlib.Core.List.{List, [], _∷_, map}
 use mathlib.Core.Bool.{true, false}
 use Rattle.base_finite.specs.Below.{any, all, count, least, spread, select}
-use Rattle.graph.specs.Graph.{Graph, among, entered, left, root, leaf, parent, top, own, leafOf, bare, addedLeaf, grownTree, grown}
+use Rattle.graph.specs.Graph.{Graph, among, single, entered, left, root, leaf, parent, top, own, leafOf, bare, addedLeaf, grownTree, grown}
 use Rattle.graph.specs.Placing.{placing, hangs}
+use Rattle.graph.specs.Constraint.{arity, labels, dominates, differs, positions, parents, dominances, graphOf}
 use Rattle.graph.specs.Order.{countAnswer}
 use Rattle.graph.specs.Rule1.{problem, up, rise, depth, shallowest, problemLeaf, staying, lowestLeaf, shifted}
 use Rattle.graph.specs.Cycle.{pairs, joined, sameEdge, cycle, dominanceAt, hypernormal, hypernormalCycle}
@@ -124,3 +125,31 @@ words-grown = refl
 word-fragment : fragment (grown words) 3 ≡ record { root = 3; «lowest_leaf» = 5; leaves = 1 }
 unfolding words bare addedLeaf grownTree entered left parent top own leaf leafOf lowestLeaf least any count fragment
 word-fragment = refl
+
+-- 02, Three: "Symbols 0 to 63 take no children, 64 to 127 one, 128 to 191 two, 192 to 255 three"
+arities : map arity (0 ∷ 63 ∷ 64 ∷ 127 ∷ 128 ∷ 191 ∷ 192 ∷ 255 ∷ []) ≡ 0 ∷ 0 ∷ 1 ∷ 1 ∷ 2 ∷ 2 ∷ 3 ∷ 3 ∷ []
+unfolding arity
+arities = refl
+
+-- Document 000 on condition 2 of Definition 3.3: "This excludes many constraints, as for instance X:f(Y,Y), X:f(Y1,Y2) ∧ X:f(Z1,Z2) or
+-- Y:f(X) ∧ Z:f(X)"; not X:f(Y) ∧ Y:f(Z)
+child-twice : single (positions (labels 0 128 (1 ∷ 1 ∷ []) ∷ [])) ≡ false
+unfolding single positions entered
+child-twice = refl
+
+parent-twice : single (parents (labels 0 128 (1 ∷ 2 ∷ []) ∷ labels 0 128 (3 ∷ 4 ∷ []) ∷ [])) ≡ false
+unfolding single parents entered
+parent-twice = refl
+
+child-of-two : single (positions (labels 1 64 (0 ∷ []) ∷ labels 2 64 (0 ∷ []) ∷ [])) ≡ false
+unfolding single positions entered
+child-of-two = refl
+
+parent-and-child : (single (positions (labels 0 64 (1 ∷ []) ∷ labels 1 64 (2 ∷ []) ∷ [])) ≡ true) × (single (parents (labels 0 64 (1 ∷ []) ∷ labels 1 64 (2 ∷ []) ∷ [])) ≡ true)
+unfolding single positions parents entered
+parent-and-child = (refl, refl)
+
+-- G(φ): X:f(Y,Z) ∧ Z ◁* X is a tree edge to each child, and a dominance edge
+graph-of : graphOf (record { variables = 3; literals = labels 0 128 (1 ∷ 2 ∷ []) ∷ differs 0 1 ∷ dominates 2 0 ∷ [] }) ≡ record { nodes = 3; tree = (0, 1) ∷ (0, 2) ∷ []; dominance = (2, 0) ∷ [] }
+unfolding positions dominances
+graph-of = refl

@@ -1,5 +1,6 @@
 pub mod Graph
 pub mod Placing
+pub mod Constraint
 pub mod Order
 pub mod Rule1
 pub mod Cycle

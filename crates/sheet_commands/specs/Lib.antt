@@ -1,4 +1,5 @@
 pub mod Step
 pub mod Reader
+pub mod Labels
 pub mod Turn
 pub mod Run

@@ -6,7 +6,7 @@ use Rattle.sheet_commands.specs.declared.reader.Reader.{Reader}
 use Rattle.sheet_commands.specs.declared.reader.Taken.{Taken}
 
 abbrev pub movedOn : Reader → Passed → Taken
-movedOn r p = record { step = p .step; reader = record { sheet = r .sheet; at = p .at } }
+movedOn r p = record { step = p .step; reader = record { sheet = r .sheet; at = p .at; form = r .form } }
 
 abbrev pub takenBy : Reader → Taken
-takenBy r = movedOn r (passedAt (now (r .sheet)) (r .at))
+takenBy r = movedOn r (passedAt (r .form) (now (r .sheet)) (r .at))

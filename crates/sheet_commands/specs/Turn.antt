@@ -8,11 +8,12 @@ use lib.ListN.{getD, set}
 use Rattle.base_nodeset.specs.Set.{member}
 use Rattle.graph.specs.Graph.{Edge, among, different, entered, none}
 use Rattle.base_tables.specs.Tables.{Holds}
-use Rattle.format.specs.Sheet.{Outcome, refused, beyond, whole, commands}
+use Rattle.format.specs.Sheet.{Labels, Outcome, labelling, differing, refused, beyond, pick, whole, commands}
 use Rattle.format.specs.declared.Refusal.the-variants.{Command, Range, Tree, TooMany}
 use Rattle.sheet_commands.specs.Step.{widthOf}
+use Rattle.sheet_commands.specs.Labels.{gathered, gatheredAfter}
 use Rattle.sheet_commands.specs.declared.command.Step.{Step}
-use Rattle.sheet_commands.specs.declared.command.Step.the-variants.{Nodes, Tree as TreeStep, Dominance, End, Refused as StepRefused}
+use Rattle.sheet_commands.specs.declared.command.Step.the-variants.{Nodes, Tree as TreeStep, Dominance, Label, Differ, End, Refused as StepRefused}
 use Rattle.sheet_commands.specs.declared.turn.Run.{Run}
 use Rattle.sheet_commands.specs.declared.turn.Run.the-variants.{Going, Ended, Refused}
 
@@ -21,6 +22,8 @@ stopOf (StepRefused why) = Refused why
 stopOf (Nodes n) = Refused Command
 stopOf (TreeStep p c) = Refused Command
 stopOf (Dominance l r) = Refused Command
+stopOf (Label p s) = Refused Command
+stopOf Differ = Refused Command
 stopOf End = Refused Command
 
 -- the first command: 3
@@ -29,6 +32,8 @@ begun (Nodes n) = cond (leb 1 n && leb n 128) (Going n 0) (Refused Range)
 begun (StepRefused why) = Refused why
 begun (TreeStep p c) = Refused Command
 begun (Dominance l r) = Refused Command
+begun (Label p s) = Refused Command
+begun Differ = Refused Command
 begun End = Refused Command
 
 -- the tree edge from p to c: 3, then 4
@@ -42,6 +47,10 @@ dominanceAnswer n l r edges low high =
     cond (beyond n l r)
     (Refused Range)
     (cond (member (getD low l 0) (getD high l 0) r) (Going n edges) (cond (leb 255 edges) (Refused TooMany) (Going n (edges + 1))))
+
+-- the label of p: 3
+abbrev pub labelAnswer : ℕ → ℕ → ℕ → Run
+labelAnswer n p edges = cond (leb n p) (Refused Range) (Going n edges)
 
 -- where the tree edge was taken, the parent table has it
 abbrev pub ParentsAfter : ℕ → ℕ → Run → List ℕ → List ℕ → Type 0
@@ -57,24 +66,27 @@ HeadsAfter l r (Ended n k) low high low′ high′ = Unit {0}
 HeadsAfter l r (Refused why) low high low′ high′ = Unit {0}
 
 -- what `commands` makes of a step, with the bytes after it
-unfoldable pub outcomeAfter : ℕ → List Edge → List Edge → List ℕ → Step → Outcome
-outcomeAfter n t d rest (Nodes m) = refused Command
-outcomeAfter n t d rest (TreeStep p c) =
-    cond (beyond n p c) (refused Range) (cond (eqb p c || entered t c) (refused Tree) (commands n ((p, c) ∷ t) d rest))
-outcomeAfter n t d rest (Dominance l r) =
+unfoldable pub outcomeAfter : ℕ → List Edge → List Edge → Labels → List ℕ → Step → Outcome
+outcomeAfter n t d m rest (Nodes k) = refused Command
+outcomeAfter n t d m rest (TreeStep p c) =
+    cond (beyond n p c) (refused Range) (cond (eqb p c || entered t c) (refused Tree) (commands n ((p, c) ∷ t) d m rest))
+outcomeAfter n t d m rest (Dominance l r) =
     cond (beyond n l r)
     (refused Range)
-    (cond (among d l r) (commands n t d rest) (cond (leb 255 (different d)) (refused TooMany) (commands n t ((l, r) ∷ d) rest)))
-outcomeAfter n t d rest End = whole (record { nodes = n; tree = t; dominance = d })
-outcomeAfter n t d rest (StepRefused why) = refused why
+    (pick (among d l r) (λ _. commands n t d m rest) (λ _. cond (leb 255 (different d)) (refused TooMany) (commands n t ((l, r) ∷ d) m rest)))
+outcomeAfter n t d m rest (Label p s) = cond (leb n p) (refused Range) (commands n t d (labelling m p s) rest)
+outcomeAfter n t d m rest Differ = commands n t d (differing m) rest
+outcomeAfter n t d m rest End = whole (record { nodes = n; tree = t; dominance = d }) m
+outcomeAfter n t d m rest (StepRefused why) = refused why
 
--- What a run with the outcome o has come to, before the bytes bs: a graph so far, the whole graph, or the refusal.
-unfoldable pub Reached : Outcome → List ℕ → Run → List ℕ → List ℕ → List ℕ → Type 0
-Reached o bs (Going n k) parents low high =
-    (t : List Edge) × (d : List Edge) × (n ≤ 128) × (o ≡ commands n t d bs) × Holds n t d parents low high k
-Reached o bs (Ended n k) parents low high =
-    (t : List Edge) × (d : List Edge) × (n ≤ 128) × (o ≡ whole (record { nodes = n; tree = t; dominance = d })) × Holds n t d parents low high k
-Reached o bs (Refused why) parents low high = o ≡ refused why
+-- What a run with the outcome o, and with the labels l in the end, has come to, before the bytes bs: a graph and labels so far, the
+-- whole graph, or the refusal.
+unfoldable pub Reached : Labels → Outcome → List ℕ → Run → List ℕ → List ℕ → List ℕ → Type 0
+Reached l o bs (Going n k) parents low high =
+    (t : List Edge) × (d : List Edge) × (m : Labels) × (n ≤ 128) × (o ≡ commands n t d m bs) × (l ≡ gathered m bs) × Holds n t d parents low high k
+Reached l o bs (Ended n k) parents low high =
+    (t : List Edge) × (d : List Edge) × (n ≤ 128) × (o ≡ whole (record { nodes = n; tree = t; dominance = d }) l) × Holds n t d parents low high k
+Reached l o bs (Refused why) parents low high = o ≡ refused why
 
 -- a run goes on only past a byte
 abbrev pub Past : ℕ → Run → Type 0
@@ -82,7 +94,8 @@ Past at (Going n k) = 0 < at
 Past at (Ended n k) = Unit {0}
 Past at (Refused why) = Unit {0}
 
--- What a turn comes to, whatever edges the tables hold, and whatever bytes follow the command.
+-- What a turn comes to, whatever edges the tables hold, whatever was said of labels, and whatever bytes follow the command.
 abbrev pub Turned : ℕ → ℕ → Step → List ℕ → List ℕ → List ℕ → Run → List ℕ → List ℕ → List ℕ → Type 0
 Turned n edges step parents low high x parents′ low′ high′ =
-    ((t d : List Edge) (rest : List ℕ) → Holds n t d parents low high edges → Reached (outcomeAfter n t d rest step) rest x parents′ low′ high′) × Past (widthOf step) x
+    ((t d : List Edge) (m : Labels) (rest : List ℕ) → Holds n t d parents low high edges
+    → Reached (gatheredAfter m rest step) (outcomeAfter n t d m rest step) rest x parents′ low′ high′) × Past (widthOf step) x

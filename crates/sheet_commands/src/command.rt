@@ -1,14 +1,19 @@
 // One command of a sheet: 1 for the command byte, 2, 1 for operands.
+use format::Form;
 use format::Refusal;
 ghost use mathlib.Core.Path.{_≡_};
+ghost use mathlib.Core.Bool.{_&&_, _||_};
 ghost use lib.Dec.{eqb};
 ghost use lib.ListN.{drop};
+ghost use Rattle.format.specs.Sheet.{takesLabels};
 ghost use Rattle.sheet_commands.specs.Step.{byteOf, commandOf, placed, operandsOf, stepAt, stopOf, widthOf, passedAt};
 
 pub enum Step {
     Nodes(u8),
     Tree(u8, u8),
     Dominance(u8, u8),
+    Label(u8, u8),
+    Differ,
     End,
     Refused(Refusal),
 }
@@ -34,9 +39,19 @@ fn needed(sheet: &[u8], at: usize) -> Byte
     Byte::Read(sheet[at])
 }
 
-// 0x01 comes first, 0x02 and 0x03 after it, 0x00 last.
-fn in_place(byte: u8, at: usize, left: usize) -> bool
-    ensures { λ r. ⌜ r ≡ placed (eqb at 0) byte left ⌝ }
+// 0x05 and 0x06 are in place in a labelled sheet.
+fn labels(form: Form, byte: u8) -> bool
+    ensures { λ r. ⌜ r ≡ (takesLabels form && (eqb byte 5 || eqb byte 6)) ⌝ }
+{
+    match form {
+        Form::Plain => false,
+        Form::Labelled => byte == 5 || byte == 6,
+    }
+}
+
+// 0x01 comes first, 0x02, 0x03 and those of labels after it, 0x00 last.
+fn in_place(form: Form, byte: u8, at: usize, left: usize) -> bool
+    ensures { λ r. ⌜ r ≡ placed form (eqb at 0) byte left ⌝ }
 {
     if at == 0 {
         return byte == 1;
@@ -47,18 +62,21 @@ fn in_place(byte: u8, at: usize, left: usize) -> bool
     if byte == 2 {
         return true;
     }
-    byte == 3
+    if byte == 3 {
+        return true;
+    }
+    labels(form, byte)
 }
 
 // The command byte: 1, then 2.
-fn command(sheet: &[u8], at: usize) -> Byte
-    ensures { λ r. ⌜ r ≡ commandOf (eqb at 0) (drop at (now (sheet .entry))) ⌝ }
+fn command(form: Form, sheet: &[u8], at: usize) -> Byte
+    ensures { λ r. ⌜ r ≡ commandOf form (eqb at 0) (drop at (now (sheet .entry))) ⌝ }
 {
     let byte = needed(sheet, at);
     let Byte::Read(b) = byte else {
         return byte;
     };
-    if in_place(b, at, sheet.len() - at) {
+    if in_place(form, b, at, sheet.len() - at) {
         return byte;
     }
     Byte::Refused(Refusal::Command)
@@ -92,18 +110,24 @@ fn operands(sheet: &[u8], at: usize, command: u8) -> Step
     if command == 2 {
         return Step::Tree(x, y);
     }
-    Step::Dominance(x, y)
+    if command == 3 {
+        return Step::Dominance(x, y);
+    }
+    Step::Label(x, y)
 }
 
-fn decode(sheet: &[u8], at: usize) -> Step
-    ensures { λ r. ⌜ r ≡ stepAt (now (sheet .entry)) at ⌝ }
+fn decode(form: Form, sheet: &[u8], at: usize) -> Step
+    ensures { λ r. ⌜ r ≡ stepAt form (now (sheet .entry)) at ⌝ }
 {
-    let byte = command(sheet, at);
+    let byte = command(form, sheet, at);
     let Byte::Read(b) = byte else {
         return stop(byte);
     };
     if b == 0 {
         return Step::End;
+    }
+    if b == 6 {
+        return Step::Differ;
     }
     operands(sheet, at + 1, b)
 }
@@ -116,16 +140,18 @@ fn width(step: Step) -> usize
         Step::Nodes(_) => 2,
         Step::Tree(_, _) => 3,
         Step::Dominance(_, _) => 3,
+        Step::Label(_, _) => 3,
+        Step::Differ => 1,
         Step::End => 1,
         Step::Refused(_) => 0,
     }
 }
 
 // The command at `at`, passed.
-pub fn pass(sheet: &[u8], at: usize) -> Passed
-    ensures { λ r. ⌜ r ≡ passedAt (now (sheet .entry)) at ⌝ }
+pub fn pass(form: Form, sheet: &[u8], at: usize) -> Passed
+    ensures { λ r. ⌜ r ≡ passedAt form (now (sheet .entry)) at ⌝ }
 {
-    let step = decode(sheet, at);
+    let step = decode(form, sheet, at);
     Passed {
         step,
         at: at + width(step),

@@ -3,13 +3,20 @@ use crate::reader::Reader;
 use crate::turn::Run;
 use crate::turn::begin;
 use crate::turn::turn;
+use format::Form;
 ghost use Rattle.sheet_commands.specs.Run.{Ran, Blank};
 
-pub fn commands(sheet: &[u8], parent: &mut [u8], low: &mut [u64], high: &mut [u64]) -> Run
+pub fn commands(
+    form: Form,
+    sheet: &[u8],
+    parent: &mut [u8],
+    low: &mut [u64],
+    high: &mut [u64],
+) -> Run
     requires { ⌜ Blank (now parent) (now low) (now high) ⌝ }
-    ensures { λ x. ⌜ Ran (now (sheet .entry)) x (now (parent .exit)) (now (low .exit)) (now (high .exit)) ⌝ }
+    ensures { λ x. ⌜ Ran form (now (sheet .entry)) x (now (parent .exit)) (now (low .exit)) (now (high .exit)) ⌝ }
 {
-    let first = Reader { sheet, at: 0 }.next();
+    let first = Reader { sheet, at: 0, form }.next();
     let mut run = begin(first.step);
     let mut reader = first.reader;
     loop {

@@ -7,7 +7,7 @@ use graph::NONE;
 ghost use mathlib.Core.Path.{_≡_};
 ghost use Prim.Native.Nat.{_≤_};
 ghost use lib.ListN.{length};
-ghost use Rattle.sheet_commands.specs.Turn.{stopOf, begun, treeAnswer, dominanceAnswer, ParentsAfter, HeadsAfter, Turned};
+ghost use Rattle.sheet_commands.specs.Turn.{stopOf, begun, treeAnswer, dominanceAnswer, labelAnswer, ParentsAfter, HeadsAfter, Turned};
 
 // Different dominance edges of a sheet.
 const MOST_EDGES: usize = 255;
@@ -94,6 +94,16 @@ fn dominance_edge(n: usize, l: u8, r: u8, edges: usize, low: &mut [u64], high: &
     Run::Going(n, edges + 1)
 }
 
+// 3. A label changes no table.
+fn label(n: usize, p: u8, edges: usize) -> Run
+    ensures { λ r. ⌜ r ≡ labelAnswer n p edges ⌝ }
+{
+    if n <= p as usize {
+        return Run::Refused(Refusal::Range);
+    }
+    Run::Going(n, edges)
+}
+
 // A command after the first.
 pub fn turn(
     step: Step,
@@ -111,6 +121,8 @@ pub fn turn(
     match step {
         Step::Tree(p, c) => tree_edge(n, p, c, edges, parent),
         Step::Dominance(l, r) => dominance_edge(n, l, r, edges, low, high),
+        Step::Label(p, _) => label(n, p, edges),
+        Step::Differ => Run::Going(n, edges),
         Step::End => Run::Ended(n, edges),
         Step::Refused(why) => Run::Refused(why),
         Step::Nodes(_) => Run::Refused(Refusal::Command),

@@ -5,7 +5,9 @@ use mathlib.Core.List.{List}
 use Prim.Native.Nat.{ℕ, _≤_}
 use native.Mathlib.Omega.{arith}
 use Rattle.graph.specs.Graph as spec
-use Rattle.format.specs.Sheet.{Content, Outcome, refused, accepted, outcome}
+use Rattle.format.specs.Sheet.{Content, Outcome, refused, accepted, outcomeOf, outcome}
+use Rattle.format.specs.declared.Form.{Form}
+use Rattle.format.specs.declared.Form.the-variants.{Plain}
 use Rattle.format.specs.declared.Refusal.{Refusal}
 use Rattle.theory_edges.proofs.Growing.{few-written}
 use Rattle.theory_format.proofs.Spelling.{accepted-spells, accepted-grown, accepted-well-formed}
@@ -31,14 +33,14 @@ module _ (part : Content → spec.Graph) where
 
 -- what is written
 
-pub written-refused : (bs : List ℕ) (r : Answer) (why : Refusal) → ReadsWritten (outcome bs) r → r .verdict ≡ Refused why → outcome bs ≡ refused why
-written-refused bs r why d e = refused-where (λ s. s .written) (outcome bs) r why d e
+module _ (f : Form) (bs : List ℕ) (r : Answer) (d : ReadsWritten (outcomeOf f bs) r) where
+  pub written-refused : (why : Refusal) → r .verdict ≡ Refused why → outcomeOf f bs ≡ refused why
+  written-refused why e = refused-where (λ s. s .written) (outcomeOf f bs) r why d e
 
-pub written-accepted : (bs : List ℕ) (r : Answer) → ReadsWritten (outcome bs) r → r .verdict ≡ Accepted
-    → (s : Content) × (outcome bs ≡ accepted s) × spec.WellWritten (s .written) × Value (s .written) (r .graph)
-written-accepted bs r d e =
-    let a = accepted-where (λ s. s .written) (outcome bs) r d e in
-    (a .0, a .1, accepted-spells bs (a .0) (a .1) .well-written, a .2)
+  pub written-accepted : r .verdict ≡ Accepted → (s : Content) × (outcomeOf f bs ≡ accepted s) × spec.WellWritten (s .written) × Value (s .written) (r .graph)
+  written-accepted e =
+      let a = accepted-where (λ s. s .written) (outcomeOf f bs) r d e in
+      (a .0, a .1, accepted-spells f bs (a .0) (a .1) .well-written, a .2)
 
 -- a refusal is the same of both
 pub refused-read : (o : Outcome) (r : Answer) (why : Refusal) → ReadsWritten o r → r .verdict ≡ Refused why → Reads o r
@@ -50,7 +52,7 @@ refused-read (accepted s) r why d e = absurd (let f = d .0 in let z : _≡_ {A =
 module _ (bs : List ℕ) (r : Answer) (d : ReadsWritten (outcome bs) r) (e : r .verdict ≡ Accepted) where
   pub growable : Growable (r .graph .n) (r .graph .parent)
   growable =
-      let a = written-accepted bs r d e in
+      let a = written-accepted Plain bs r d e in
       let g : spec.Graph = a .0 .written in
       let v : Value g (r .graph) = a .3 in
       let few : g .nodes ≤ 128 = few-written g (a .2) in
@@ -61,7 +63,7 @@ module _ (bs : List ℕ) (r : Answer) (d : ReadsWritten (outcome bs) r) (e : r .
 
   pub grown-read : (v : Graph) → GrownFrom (r .graph) v → Reads (outcome bs) (record { verdict = r .verdict; graph = v })
   grown-read v g =
-      let a = written-accepted bs r d e in
+      let a = written-accepted Plain bs r d e in
       let w : spec.Graph = a .0 .written in
       let old : Value w (r .graph) = a .3 in
       let few : w .nodes ≤ 128 = few-written w (a .2) in

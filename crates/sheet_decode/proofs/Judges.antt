@@ -10,13 +10,14 @@ use Rattle.base_finite.specs.Below.{any, count}
 use Rattle.base_finite.proofs.Laws.{by-bool, any-ext, any-cut, any-found, and-true, and-both}
 use Rattle.base_nodeset.specs.Set.{member, mem, Difference, Union}
 use Rattle.base_nodeset.specs.declared.NodeSet.{NodeSet}
-use Rattle.theory_edges.specs.Edges.{Within}
+use Rattle.theory_edges.specs.Edges.{Within, graphWith}
 use Rattle.theory_edges.proofs.Edges.{parent-among}
 use Rattle.theory_edges.proofs.Growing.{leaf-grown, root-grown}
 use Rattle.base_tables.proofs.Parents.{parentless, inner-held, root-held}
 use Rattle.graph.specs.Graph.{Edge, Graph, among, entered, left, parent, root, leaf, none, rises, cyclic, bare, grown}
-use Rattle.format.specs.Sheet.{overgrown, astray, whole, refused, accepted, content}
-use Rattle.format.specs.declared.Refusal.the-variants.{Tree, Ends, Overgrown}
+use Rattle.format.specs.Sheet.{Labels, takesLabels, refused, accepted, says, overgrown, astray, mislabelled, overlapping, holed, fitted, whole}
+use Rattle.format.specs.declared.Form.the-variants.{Plain, Labelled}
+use Rattle.format.specs.declared.Refusal.the-variants.{Tree, Ends, Overgrown, Label, Overlap, Hole}
 use Rattle.base_tables.specs.Tables.{Holds}
 use Rattle.base_tables.specs.Trees.{InnerSet, RootSet}
 use Rattle.sheet_grow.specs.Grow.{BareSet}
@@ -66,9 +67,6 @@ module _ (n : ℕ) (t : List Edge) (parents : List ℕ) (few : n ≤ 128) (withi
       rw (parentless n t parents few within parent-is v h, e, parent-is v (omega arith)) (rises-held k (parent t v) (up .0)))
       (λ (e : entered t v ≡ false). rw (parentless n t parents few within parent-is v h, e))
 
-abbrev pub graphOf : ℕ → List Edge → List Edge → Graph
-graphOf n t d = record { nodes = n; tree = t; dominance = d }
-
 -- What is worked out of a table of parents: no cycle of tree edges, the inner nodes, the roots, and the nodes that are bare.
 pub record Sets (n : ℕ) (parents : List ℕ) : Type 0 where
   pub few : n ≤ 128
@@ -82,16 +80,16 @@ pub record Sets (n : ℕ) (parents : List ℕ) : Type 0 where
 
 module _ {n : ℕ} {t d : List Edge} {parents low high : List ℕ} {edges : ℕ} (holds : Holds n t d parents low high edges) where
   abbrev g : Graph
-  g = graphOf n t d
+  g = graphWith n t d
 
   cyclic-held : n ≤ 128 → cyclicIn n parents ≡ cyclic g
   unfolding cyclicIn cyclic
   cyclic-held few = any-ext n (risesIn n parents) (rises n t) (rises-held n t parents few (holds .tree-within) (holds .parent-is) n)
 
   -- 4
-  pub whole-tree : n ≤ 128 → cyclicIn n parents ≡ true → whole g ≡ refused Tree
+  pub whole-tree : n ≤ 128 → cyclicIn n parents ≡ true → (m : Labels) → whole g m ≡ refused Tree
   unfolding whole
-  whole-tree few e = let found : cyclic g ≡ true = sym (cyclic-held few) ∙ e in rw found
+  whole-tree few e m = let found : cyclic g ≡ true = sym (cyclic-held few) ∙ e in rw found
 
   module _ (s : Sets n parents) where
     few : n ≤ 128
@@ -136,9 +134,9 @@ module _ {n : ℕ} {t d : List Edge} {parents low high : List ℕ} {edges : ℕ}
       number = ap (λ (m : ℕ). n + m) (counted ∙ set-counted n parents (s .alone) bare-is) ∙ bare-counted g few parents low high edges holds
 
       -- 13
-      pub whole-overgrown : 128 < n + k → whole g ≡ refused Overgrown
+      pub whole-overgrown : 128 < n + k → (m : Labels) → whole g m ≡ refused Overgrown
       unfolding whole overgrown
-      whole-overgrown h = rw (acyclic, lt-ltb 128 (grown g .nodes) (omega (arith, h, number)))
+      whole-overgrown h m = rw (acyclic, lt-ltb 128 (grown g .nodes) (omega (arith, h, number)))
 
       module _ (fits : n + k ≤ 128) (more : NodeSet) (m : Union (s .inner) (s .alone) more) where
         not-overgrown : overgrown g ≡ false
@@ -146,10 +144,38 @@ module _ {n : ℕ} {t d : List Edge} {parents low high : List ℕ} {edges : ℕ}
         not-overgrown = le-ltb 128 (grown g .nodes) (omega (arith, fits, number))
 
         -- 6
-        pub whole-ends : astrayIn n low high more (s .roots) ≡ true → whole g ≡ refused Ends
+        pub whole-ends : astrayIn n low high more (s .roots) ≡ true → (l : Labels) → whole g l ≡ refused Ends
         unfolding whole
-        whole-ends e = let found : astray (grown g) ≡ true = sym (astray-held more m) ∙ e in rw (acyclic, not-overgrown, found)
+        whole-ends e l = let found : astray (grown g) ≡ true = sym (astray-held more m) ∙ e in rw (acyclic, not-overgrown, found)
 
-        pub whole-accepted : astrayIn n low high more (s .roots) ≡ false → whole g ≡ accepted (content g)
+        pub whole-fitted : astrayIn n low high more (s .roots) ≡ false → (l : Labels) → whole g l ≡ fitted g l
         unfolding whole
-        whole-accepted e = let found : astray (grown g) ≡ false = sym (astray-held more m) ∙ e in rw (acyclic, not-overgrown, found)
+        whole-fitted e l = let found : astray (grown g) ≡ false = sym (astray-held more m) ∙ e in rw (acyclic, not-overgrown, found)
+
+-- 14, 15, 16
+module _ (g : Graph) (m : Labels) where
+  pub fits-plain : m .form ≡ Plain → fitted g m ≡ accepted (says g m)
+  unfolding fitted
+  fits-plain e = rw e
+
+  module _ (form : m .form ≡ Labelled) where
+    takes : takesLabels (m .form) ≡ true
+    takes = ap takesLabels form
+
+    pub fits-label : true ≡ mislabelled g (m .symbols) → fitted g m ≡ refused Label
+    unfolding fitted
+    fits-label e = rw (takes, ← e)
+
+    module _ (label : false ≡ mislabelled g (m .symbols)) where
+      pub fits-overlap : true ≡ overlapping g m → fitted g m ≡ refused Overlap
+      unfolding fitted
+      fits-overlap e = rw (takes, ← label, ← e)
+
+      module _ (overlap : false ≡ overlapping g m) where
+        pub fits-hole : true ≡ holed g (m .symbols) → fitted g m ≡ refused Hole
+        unfolding fitted
+        fits-hole e = rw (takes, ← label, ← overlap, ← e)
+
+        pub fits-all : false ≡ holed g (m .symbols) → fitted g m ≡ accepted (says g m)
+        unfolding fitted
+        fits-all e = rw (takes, ← label, ← overlap, ← e)

@@ -11,13 +11,15 @@ use Rattle.base_finite.proofs.Stores.{zeros}
 use Rattle.base_nodeset.proofs.Laws.{member-zero}
 use Rattle.graph.specs.Graph.{Edge, among, different, single, parent}
 use Rattle.format.specs.Sheet.{Outcome, whole, allCommands}
+use Rattle.format.specs.declared.Form.{Form}
 use Rattle.format.specs.declared.Refusal.{Refusal}
-use Rattle.sheet_decode.proofs.Judges.{graphOf}
 use Rattle.sheet_commands.proofs.turn.Run.{the-type}
+use Rattle.theory_edges.specs.Edges.{graphWith}
 use Rattle.base_tables.specs.Tables.{Holds}
 use Rattle.sheet_commands.specs.Turn.{Reached}
+use Rattle.sheet_commands.specs.Labels.{labelsIn}
 use Rattle.sheet_commands.specs.Run.{Blank, Ran}
-use Rattle.sheet_decode.specs.Judge.{Judged}
+use Rattle.sheet_decode.specs.Judge.{Judged, Fitted}
 use Rattle.sheet_decode.specs.Read.{stopOf, unacceptedOf, Decodes, ReadsWritten}
 use Rattle.sheet_commands.specs.declared.turn.Run.{Run}
 use Rattle.sheet_commands.specs.declared.turn.Run.the-variants.{Going, Ended, Refused as RunRefused}
@@ -46,34 +48,45 @@ blank m e n =
 
 -- the answers put together
 
-module _ (s parents low high : List ℕ) (x : Run) (ran : Ran s x parents low high) where
+module _ (f : Form) (s parents low high : List ℕ) (x : Run) (ran : Ran f s x parents low high) where
   pub ended : (n k : ℕ) → x ≡ Ended n k
-      → (t : List Edge) × (d : List Edge) × (n ≤ 128) × (allCommands s ≡ whole (graphOf n t d)) × Holds n t d parents low high k
+      → (t : List Edge) × (d : List Edge) × (n ≤ 128) × (allCommands f s ≡ whole (graphWith n t d) (labelsIn f s)) × Holds n t d parents low high k
   unfolding Ran Reached
   ended n k e = rw e at ran
 
-  pub run-stopped : ((tagOf the-type x ≡ 0) ⊎ (tagOf the-type x ≡ 2)) → Decodes (allCommands s) (stopOf x) parents low high
+  pub run-stopped : ((tagOf the-type x ≡ 0) ⊎ (tagOf the-type x ≡ 2)) → Decodes (allCommands f s) (stopOf x) parents low high
   unfolding Decodes Ran Reached
   run-stopped o = stopped x ran o
     where
-      stopped : (y : Run) → Ran s y parents low high → ((tagOf the-type y ≡ 0) ⊎ (tagOf the-type y ≡ 2)) → Decodes (allCommands s) (stopOf y) parents low high
+      stopped : (y : Run) → Ran f s y parents low high → ((tagOf the-type y ≡ 0) ⊎ (tagOf the-type y ≡ 2)) → Decodes (allCommands f s) (stopOf y) parents low high
       stopped (Going n k) r o = absurd r
       stopped (Ended n k) r o = absurd (⊎-elim (λ q. omega arith) (λ q. omega arith) o)
       stopped (RunRefused why) r o = r
 
   module _ (n k : ℕ) (e : x ≡ Ended n k) (v : Verdict) (judged : (t d : List Edge) (edges : ℕ) → Holds n t d parents low high edges → Judged n t d v) where
-    pub judge-refused : (why : Refusal) → v ≡ VerdictRefused why → Decodes (allCommands s) (unacceptedOf v) parents low high
+    pub judge-refused : (why : Refusal) → v ≡ VerdictRefused why → Decodes (allCommands f s) (unacceptedOf v) parents low high
     unfolding Decodes
-    judge-refused why f =
+    judge-refused why q =
         let r = ended n k e in
-        let judged-so = rw f at (judged (r .0) (r .1) k (r .4)) in
-        rw f (r .3 ∙ judged-so)
+        let judged-so = rw q at (judged (r .0) (r .1) k (r .4)) in
+        rw q (r .3 ∙ judged-so (labelsIn f s))
 
-    pub judge-accepted : v ≡ Accepted → Decodes (allCommands s) (Filled n k) parents low high
-    unfolding Decodes
-    judge-accepted f =
-        let r = ended n k e in
-        (graphOf n (r .0) (r .1), r .3 ∙ (rw f at (judged (r .0) (r .1) k (r .4))), refl, r .4)
+    module _ (q : v ≡ Accepted) (w : Verdict) (fit : (t d : List Edge) (edges : ℕ) → Holds n t d parents low high edges → Fitted n t d (labelsIn f s) w) where
+      pub labels-refused : (why : Refusal) → w ≡ VerdictRefused why → Decodes (allCommands f s) (unacceptedOf w) parents low high
+      unfolding Decodes
+      labels-refused why i =
+          let r = ended n k e in
+          let judged-so = rw q at (judged (r .0) (r .1) k (r .4)) in
+          let fit-so = rw i at (fit (r .0) (r .1) k (r .4)) in
+          rw i (r .3 ∙ judged-so (labelsIn f s) ∙ fit-so)
+
+      pub labels-accepted : w ≡ Accepted → Decodes (allCommands f s) (Filled n k) parents low high
+      unfolding Decodes
+      labels-accepted i =
+          let r = ended n k e in
+          let judged-so = rw q at (judged (r .0) (r .1) k (r .4)) in
+          let fit-so = rw i at (fit (r .0) (r .1) k (r .4)) in
+          (graphWith n (r .0) (r .1), labelsIn f s, r .3 ∙ judged-so (labelsIn f s) ∙ fit-so, refl, r .4)
 
 -- the value is read off the tables
 pub reads-refused : (o : Outcome) (x : Decoded) (parents low high : List ℕ) (r : Answer) (why : Refusal) → Decodes o x parents low high
@@ -87,4 +100,4 @@ pub reads-accepted : (o : Outcome) (x : Decoded) (parents low high : List ℕ) (
 unfolding Decodes
 reads-accepted o x parents low high r n k d e v en ep el eh ek =
     let h = rw e at d in
-    rw (h .1) (v, record { nodes = en ∙ sym (h .2); tables = rw (ep, el, eh, ek, h .2) (h .3) })
+    rw (h .2) (v, record { nodes = en ∙ sym (h .3); tables = rw (ep, el, eh, ek, h .3) (h .4) })

@@ -10,7 +10,8 @@ use Rattle.base_nodeset.specs.Set.{mem}
 use Rattle.base_tables.specs.Rows.{inRow}
 use Rattle.base_nodeset.specs.declared.NodeSet.{NodeSet}
 use Rattle.graph.specs.Graph.{Edge, none}
-use Rattle.format.specs.Sheet.{refused, accepted, content, whole}
+use Rattle.theory_edges.specs.Edges.{graphWith}
+use Rattle.format.specs.Sheet.{Labels, refused, accepted, says, fitted, whole}
 use Rattle.sheet_decode.specs.declared.judge.Verdict.{Verdict}
 use Rattle.sheet_decode.specs.declared.judge.Verdict.the-variants.{Accepted, Refused}
 
@@ -28,8 +29,12 @@ strays row l inner roots = any 128 (λ r. row r && not (not (mem inner l) && mem
 unfoldable pub astrayIn : ℕ → List ℕ → List ℕ → NodeSet → NodeSet → Bool
 astrayIn n low high inner roots = any n (λ l. strays (inRow low high l) l inner roots)
 
--- What a verdict says of `whole`.
+-- What a verdict on the edges says of `whole`, whatever is said of labels.
 abbrev pub Judged : ℕ → List Edge → List Edge → Verdict → Type 0
-Judged n t d Accepted =
-    whole (record { nodes = n; tree = t; dominance = d }) ≡ accepted (content (record { nodes = n; tree = t; dominance = d }))
-Judged n t d (Refused why) = whole (record { nodes = n; tree = t; dominance = d }) ≡ refused why
+Judged n t d Accepted = (m : Labels) → whole (graphWith n t d) m ≡ fitted (graphWith n t d) m
+Judged n t d (Refused why) = (m : Labels) → whole (graphWith n t d) m ≡ refused why
+
+-- What a verdict on the labels m says.
+abbrev pub Fitted : ℕ → List Edge → List Edge → Labels → Verdict → Type 0
+Fitted n t d m Accepted = fitted (graphWith n t d) m ≡ accepted (says (graphWith n t d) m)
+Fitted n t d m (Refused why) = fitted (graphWith n t d) m ≡ refused why

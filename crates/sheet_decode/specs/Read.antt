@@ -3,7 +3,7 @@ use Prim.Native.Nat.{ℕ, _+_, _≤_}
 use mathlib.Core.Path.{_≡_}
 use mathlib.Core.List.{List}
 use Rattle.graph.specs.Graph as spec
-use Rattle.format.specs.Sheet.{Content, Outcome, refused, accepted, content}
+use Rattle.format.specs.Sheet.{Labels, Content, Outcome, refused, accepted, says}
 use Rattle.base_finite.specs.Below.{count, select}
 use Rattle.base_finite.specs.Stores.{Written}
 use Rattle.base_tables.specs.Tables.{Holds}
@@ -32,7 +32,7 @@ unacceptedOf (VerdictRefused why) = Refused why
 unfoldable pub Decodes : Outcome → Decoded → List ℕ → List ℕ → List ℕ → Type 0
 Decodes o (Refused why) parents low high = o ≡ refused why
 Decodes o (Filled n k) parents low high =
-    (g : spec.Graph) × (o ≡ accepted (content g)) × (g .nodes ≡ n) × Holds n (g .tree) (g .dominance) parents low high k
+    (g : spec.Graph) × (m : Labels) × (o ≡ accepted (says g m)) × (g .nodes ≡ n) × Holds n (g .tree) (g .dominance) parents low high k
 
 -- The value is the graph's.
 pub record Value (g : spec.Graph) (v : Graph) : Type 0 where

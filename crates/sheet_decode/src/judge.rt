@@ -1,10 +1,16 @@
-// What is tested after the last command: 4, 13, 6.
+// What is tested after the last command: 4, 13, 6, and of a labelled sheet 14, 15, 16.
 use base_nodeset::NodeSet;
 use base_tables::rows::set_at;
 use base_tables::trees::inner_nodes;
 use base_tables::trees::root_nodes;
+use format::Form;
 use format::Refusal;
 use graph::NONE;
+use sheet_labels::fit::holed;
+use sheet_labels::fit::mislabelled;
+use sheet_labels::fit::overlapping;
+use sheet_labels::gather::labels_of;
+use sheet_labels::table::Labels;
 ghost use mathlib.Core.Path.{_≡_};
 ghost use mathlib.Core.List.{List};
 ghost use Prim.Native.Nat.{ℕ, _≤_, _<_};
@@ -13,7 +19,11 @@ ghost use Rattle.base_nodeset.specs.Set.{mem};
 ghost use Rattle.graph.specs.Graph.{Edge};
 ghost use Rattle.base_tables.specs.Tables.{Holds};
 ghost use Rattle.base_tables.specs.Trees.{Parents};
-ghost use Rattle.sheet_decode.specs.Judge.{risesIn, cyclicIn, strays, astrayIn, Judged};
+ghost use Rattle.format.specs.Sheet as spec;
+ghost use Rattle.format.specs.declared.Form.the-variants.{Labelled};
+ghost use Rattle.sheet_commands.specs.Labels.{labelsIn};
+ghost use Rattle.sheet_labels.specs.Keep.{Keeps};
+ghost use Rattle.sheet_decode.specs.Judge.{risesIn, cyclicIn, strays, astrayIn, Judged, Fitted};
 
 pub enum Verdict {
     Accepted,
@@ -95,4 +105,45 @@ pub fn judge(n: usize, parent: &[u8], low: &[u64], high: &[u64]) -> Verdict
         return Verdict::Refused(Refusal::Ends);
     }
     Verdict::Accepted
+}
+
+// 14, 15, 16, in this order.
+fn fit(labels: Labels, n: usize, parent: &[u8], low: &[u64], high: &[u64]) -> Verdict
+    requires { ⌜ Parents n (now parent) × (length (now low) ≡ 128) × (length (now high) ≡ 128) ⌝ }
+    ensures { λ r. ⌜
+        ((m : spec.Labels) (t d : List Edge) (edges : ℕ) → m .form ≡ Labelled → Keeps m labels
+        → Holds n t d (now (parent .entry)) (now (low .entry)) (now (high .entry)) edges → Fitted n t d m r)
+        ⌝ }
+{
+    if mislabelled(labels, parent, n) {
+        return Verdict::Refused(Refusal::Label);
+    }
+    if overlapping(labels, n) {
+        return Verdict::Refused(Refusal::Overlap);
+    }
+    if holed(labels, parent, low, high, n) {
+        return Verdict::Refused(Refusal::Hole);
+    }
+    Verdict::Accepted
+}
+
+// What the sheet says of labels, held against its edges.
+pub fn judge_labels(
+    form: Form,
+    sheet: &[u8],
+    n: usize,
+    parent: &[u8],
+    low: &[u64],
+    high: &[u64],
+) -> Verdict
+    requires { ⌜ Parents n (now parent) × (length (now low) ≡ 128) × (length (now high) ≡ 128) ⌝ }
+    ensures { λ r. ⌜
+        ((t d : List Edge) (edges : ℕ) → Holds n t d (now (parent .entry)) (now (low .entry)) (now (high .entry)) edges
+        → Fitted n t d (labelsIn form (now (sheet .entry))) r)
+        ⌝ }
+{
+    match form {
+        Form::Plain => Verdict::Accepted,
+        Form::Labelled => fit(labels_of(sheet), n, parent, low, high),
+    }
 }

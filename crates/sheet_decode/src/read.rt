@@ -1,6 +1,8 @@
 // A whole sheet: what it writes, and the graph that it means; or its refusal.
 use crate::judge::Verdict;
 use crate::judge::judge;
+use crate::judge::judge_labels;
+use format::Form;
 use format::LONGEST;
 use format::Refusal;
 use graph::NONE;
@@ -8,7 +10,7 @@ use sheet_commands::run::commands;
 use sheet_commands::turn::Run;
 use sheet_grow::grow;
 ghost use mathlib.Core.Path.{_≡_};
-ghost use Rattle.format.specs.Sheet.{allCommands, outcome};
+ghost use Rattle.format.specs.Sheet.{allCommands, outcomeOf, outcome};
 ghost use Rattle.sheet_commands.specs.Run.{Blank};
 ghost use Rattle.sheet_decode.specs.Read.{stopOf, unacceptedOf, Decodes, ReadsWritten, Reads, Growable, GrownFrom};
 
@@ -56,11 +58,17 @@ fn unaccepted(verdict: Verdict) -> Decoded
 }
 
 // All commands of the sheet, decoded into tables of 128 entries.
-fn decode_commands(sheet: &[u8], parent: &mut [u8], low: &mut [u64], high: &mut [u64]) -> Decoded
+fn decode_commands(
+    form: Form,
+    sheet: &[u8],
+    parent: &mut [u8],
+    low: &mut [u64],
+    high: &mut [u64],
+) -> Decoded
     requires { ⌜ Blank (now parent) (now low) (now high) ⌝ }
-    ensures { λ x. ⌜ Decodes (allCommands (now (sheet .entry))) x (now (parent .exit)) (now (low .exit)) (now (high .exit)) ⌝ }
+    ensures { λ x. ⌜ Decodes (allCommands form (now (sheet .entry))) x (now (parent .exit)) (now (low .exit)) (now (high .exit)) ⌝ }
 {
-    let run = commands(sheet, parent, low, high);
+    let run = commands(form, sheet, parent, low, high);
     let Run::Ended(n, edges) = run else {
         return stop(run);
     };
@@ -68,28 +76,38 @@ fn decode_commands(sheet: &[u8], parent: &mut [u8], low: &mut [u64], high: &mut 
     let Verdict::Accepted = verdict else {
         return unaccepted(verdict);
     };
+    let fit = judge_labels(form, sheet, n, parent, low, high);
+    let Verdict::Accepted = fit else {
+        return unaccepted(fit);
+    };
     Decoded::Filled(n, edges)
 }
 
 // 12 before every other check.
-fn decode_into(sheet: &[u8], parent: &mut [u8], low: &mut [u64], high: &mut [u64]) -> Decoded
+fn decode_into(
+    form: Form,
+    sheet: &[u8],
+    parent: &mut [u8],
+    low: &mut [u64],
+    high: &mut [u64],
+) -> Decoded
     requires { ⌜ Blank (now parent) (now low) (now high) ⌝ }
-    ensures { λ x. ⌜ Decodes (outcome (now (sheet .entry))) x (now (parent .exit)) (now (low .exit)) (now (high .exit)) ⌝ }
+    ensures { λ x. ⌜ Decodes (outcomeOf form (now (sheet .entry))) x (now (parent .exit)) (now (low .exit)) (now (high .exit)) ⌝ }
 {
     if LONGEST < sheet.len() {
         return Decoded::Refused(Refusal::TooLong);
     }
-    decode_commands(sheet, parent, low, high)
+    decode_commands(form, sheet, parent, low, high)
 }
 
-// What the sheet writes.
-pub fn read_written(sheet: &[u8]) -> Answer
-    ensures { λ r. ⌜ ReadsWritten (outcome (now (sheet .entry))) r ⌝ }
+// What the sheet writes, of either form.
+pub fn read_written(form: Form, sheet: &[u8]) -> Answer
+    ensures { λ r. ⌜ ReadsWritten (outcomeOf form (now (sheet .entry))) r ⌝ }
 {
     let mut parent = [NONE; 128];
     let mut low = [0u64; 128];
     let mut high = [0u64; 128];
-    match decode_into(sheet, &mut parent, &mut low, &mut high) {
+    match decode_into(form, sheet, &mut parent, &mut low, &mut high) {
         Decoded::Refused(why) => Answer {
             verdict: Verdict::Refused(why),
             graph: Graph {
@@ -131,11 +149,11 @@ fn grown(graph: Graph) -> Graph
     }
 }
 
-// The graph that the sheet means.
+// The graph that a plain sheet means.
 pub fn read(sheet: &[u8]) -> Answer
     ensures { λ r. ⌜ Reads (outcome (now (sheet .entry))) r ⌝ }
 {
-    let answer = read_written(sheet);
+    let answer = read_written(Form::Plain, sheet);
     let verdict = answer.verdict;
     let graph = answer.graph;
     match verdict {

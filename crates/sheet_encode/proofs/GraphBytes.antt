@@ -20,7 +20,7 @@ use Rattle.theory_format.proofs.Tidy.{tidy-length}
 use Rattle.base_tables.specs.Tables.{Holds}
 use Rattle.base_tables.specs.Trees.{Parents}
 use Rattle.base_tables.proofs.Parents.{parent-tells, parents-held}
-use Rattle.sheet_decode.proofs.Judges.{graphOf}
+use Rattle.theory_edges.specs.Edges.{graphWith}
 use Rattle.base_finite.specs.Stores.{Written}
 use Rattle.sheet_encode.specs.Tidy.{treeBytes, treePart, rowBytes, rowCommand, dominancePart, treesIn, TidyTables}
 use Rattle.base_finite.proofs.Runs.{spread-gap}
@@ -61,7 +61,7 @@ module _ (n : ℕ) (t d : List Edge) (parents low high : List ℕ) (edges : ℕ)
       let none-there : (j : ℕ) → 0 ≤ j → j < n → cond (among t j c) (2 ∷ j ∷ c ∷ []) [] ≡ [] = λ j a b. rw (among-unentered t j c e) in
       rw (eq-eqb (getD parents c 0) none is) (sym (spread-nothing (λ p. cond (among t p c) (2 ∷ p ∷ c ∷ []) []) n none-there)))
 
-  pub tree-part-held : treePart n parents ≡ tidyTree (graphOf n t d)
+  pub tree-part-held : treePart n parents ≡ tidyTree (graphWith n t d)
   unfolding treePart tidyTree
   tree-part-held = spread-ext n _ _ (λ c h. tree-bytes-held c h)
 
@@ -73,7 +73,7 @@ module _ (n : ℕ) (t d : List Edge) (parents low high : List ℕ) (edges : ℕ)
       rw gone)
       ∙ spread-ext n _ _ (λ r h. rw (holds .heads-are l r))
 
-  pub dominance-part-held : dominancePart n low high ≡ tidyDominance (graphOf n t d)
+  pub dominance-part-held : dominancePart n low high ≡ tidyDominance (graphWith n t d)
   unfolding dominancePart tidyDominance
   dominance-part-held = spread-ext n _ _ (λ l h. row-held l)
 
@@ -84,7 +84,7 @@ module _ (n : ℕ) (parents low high : List ℕ) (edges : ℕ) (h : TidyTables n
   tables : Holds n (h .graph .tree) (h .graph .dominance) parents low high edges
   tables = subst⁻¹ (λ (m : ℕ). Holds m (h .graph .tree) (h .graph .dominance) parents low high edges) (h .nodes) (h .holds)
 
-  same : graphOf n (h .graph .tree) (h .graph .dominance) ≡ h .graph
+  same : graphWith n (h .graph .tree) (h .graph .dominance) ≡ h .graph
   same = λ i. record { nodes = h .nodes i; tree = h .graph .tree; dominance = h .graph .dominance }
 
   pub held-parents : Parents n parents

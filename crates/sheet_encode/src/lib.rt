@@ -2,6 +2,7 @@
 use base_nodeset::NodeSet;
 use base_nodeset::Popped;
 use base_tables::rows::set_at;
+use format::Form;
 use format::Refusal;
 use graph::NONE;
 use sheet_decode::judge::Verdict;
@@ -13,7 +14,7 @@ ghost use lib.ListN.{length};
 ghost use lib.Seq.{sets};
 ghost use Rattle.base_finite.specs.Below.{count};
 ghost use Rattle.base_tables.specs.Trees.{Parents};
-ghost use Rattle.format.specs.Sheet.{outcome};
+ghost use Rattle.format.specs.Sheet.{outcomeOf};
 ghost use Rattle.base_finite.specs.Stores.{Written};
 ghost use Rattle.sheet_encode.specs.Tidy.{treeBytes, treesIn, rowBytes, treePart, dominancePart, moreTrees, TidyTables, TidiesTo, Tidies};
 
@@ -127,11 +128,11 @@ pub fn write(
     Tidied::Length(needed)
 }
 
-// The tidy sheet of the same nodes and edges, from the first lent byte on.
-pub fn tidy(sheet: &[u8], out: &mut [u8]) -> Tidied
-    ensures { λ r. ⌜ Tidies (outcome (now (sheet .entry))) r (now (out .entry)) (now (out .exit)) ⌝ }
+// The tidy plain sheet of the same nodes and edges, from the first lent byte on.
+pub fn tidy(form: Form, sheet: &[u8], out: &mut [u8]) -> Tidied
+    ensures { λ r. ⌜ Tidies (outcomeOf form (now (sheet .entry))) r (now (out .entry)) (now (out .exit)) ⌝ }
 {
-    let answer = read_written(sheet);
+    let answer = read_written(form, sheet);
     let verdict = answer.verdict;
     let graph = answer.graph;
     let parent = graph.parent;

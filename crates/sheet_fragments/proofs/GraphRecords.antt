@@ -15,7 +15,7 @@ use Rattle.base_nodeset.specs.Set.{mem}
 use Rattle.base_nodeset.specs.declared.NodeSet.{NodeSet}
 use Rattle.base_finite.proofs.Bounds.{least-ext, count-cut, least-cut}
 use Rattle.graph.specs.Graph.{Graph, left, root, leaf, leafOf}
-use Rattle.format.specs.Sheet.{accepted}
+use Rattle.format.specs.Sheet.{Labels, accepted}
 use Rattle.graph.specs.Rule1.{lowestLeaf}
 use Rattle.graph.specs.Table.{fragment, fragments}
 use Rattle.graph.specs.declared.Fragment.{Fragment}
@@ -57,7 +57,7 @@ fragments-length g = length-spread 1 (g .nodes) (root g) (λ r. fragment g r ∷
 
 -- the tables
 
-module _ (written g : Graph) (parents : List ℕ) (shaped : Shaped g) (tree : TreeOf g (g .nodes) parents) where
+module _ (written g : Graph) (labels : Labels) (parents : List ℕ) (shaped : Shaped g) (tree : TreeOf g (g .nodes) parents) where
   few : g .nodes ≤ 128
   few = shaped .few-nodes
 
@@ -71,7 +71,7 @@ module _ (written g : Graph) (parents : List ℕ) (shaped : Shaped g) (tree : Tr
         ∙ count-cut 128 (g .nodes) (root g) few (λ v _ t. root-below g v t)
         ∙ sym (fragments-length g)
 
-    too-small : (out : List ℕ) → length out < 3 * count 128 (mem roots) → Tabled (accepted (record { written = written; graph = g })) (Refused SmallBuffer) out out
+    too-small : (out : List ℕ) → length out < 3 * count 128 (mem roots) → Tabled (accepted (record { written = written; graph = g; labels = labels })) (Refused SmallBuffer) out out
     too-small out h =
         let less = lt-ltb (length out) (3 * length (fragments g)) (rw (← roots-counted) h) in
         record { answer = rw less; bytes = rw less }
@@ -109,7 +109,7 @@ module _ (written g : Graph) (parents : List ℕ) (shaped : Shaped g) (tree : Tr
       unfolding recordsBelow fragments
       records-held = spread-ext (g .nodes) _ _ (λ r _. record-held r) ∙ sym (flat-spread (g .nodes) (λ r. cond (root g r) (fragment g r ∷ []) []))
 
-      all-written : (old new : List ℕ) → 3 * count 128 (mem roots) ≤ length old → new ≡ sets old 0 (recordsIn (g .nodes) owner inner roots) → Tabled (accepted (record { written = written; graph = g })) (Filled (count 128 (mem roots))) old new
+      all-written : (old new : List ℕ) → 3 * count 128 (mem roots) ≤ length old → new ≡ sets old 0 (recordsIn (g .nodes) owner inner roots) → Tabled (accepted (record { written = written; graph = g; labels = labels })) (Filled (count 128 (mem roots))) old new
       all-written old new h e =
           let fits : 3 * length (fragments g) ≤ length old = rw (← roots-counted) h in
           let enough = le-ltb (length old) (3 * length (fragments g)) fits in
@@ -124,11 +124,11 @@ module _ (n : ℕ) (parents : List ℕ) (roots : NodeSet) (is-roots : RootSet n 
   pub small-table : (out : List ℕ) → length out < 3 * m → TableIn n parents (Refused SmallBuffer) out out
   small-table out h s low high edges t =
       let e = t .nodes in
-      too-small (s .written) (s .graph) parents (well-formed-shaped (t .well-formed)) (rw e at (tree-of t)) roots (rw e at is-roots) out (rw is-count at h)
+      too-small (s .written) (s .graph) (s .labels) parents (well-formed-shaped (t .well-formed)) (rw e at (tree-of t)) roots (rw e at is-roots) out (rw is-count at h)
 
   pub full-table : (inner : NodeSet) (start owner : List ℕ) → InnerSet n parents inner → Owned n parents start owner n → (old new : List ℕ) → 3 * m ≤ length old
       → new ≡ sets old 0 (recordsIn n owner inner roots) → TableIn n parents (Filled m) old new
   full-table inner start owner is-inner is-owner old new h f s low high edges t =
       let e = t .nodes in
       rw is-count
-      (all-written (s .written) (s .graph) parents (well-formed-shaped (t .well-formed)) (rw e at (tree-of t)) roots (rw e at is-roots) inner owner (rw e at is-inner) (rw e at (is-owner .top-is)) old new (rw is-count at h) (rw e at f))
+      (all-written (s .written) (s .graph) (s .labels) parents (well-formed-shaped (t .well-formed)) (rw e at (tree-of t)) roots (rw e at is-roots) inner owner (rw e at is-inner) (rw e at (is-owner .top-is)) old new (rw is-count at h) (rw e at f))

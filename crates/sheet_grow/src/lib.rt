@@ -13,7 +13,7 @@ ghost use Rattle.base_tables.specs.Trees.{Parents};
 ghost use Rattle.sheet_grow.specs.Grow.{BareSet, bareIn};
 
 // The nodes without tree edges.
-fn bare_nodes(parent: &[u8], n: usize) -> NodeSet
+pub fn bare_nodes(parent: &[u8], n: usize) -> NodeSet
     requires { ⌜ Parents n (now parent) ⌝ }
     ensures { λ r. ⌜ BareSet n (now (parent .entry)) r ⌝ }
 {

@@ -9,7 +9,7 @@ use native.Mathlib.Nat.{le-of-suc-le-suc, not-suc-le-zero}
 use Rattle.base_finite.specs.Below.{any, all, count, least, spread, select}
 use Rattle.base_finite.proofs.Laws.{and-both}
 use Rattle.graph.specs.Graph.{among, different, entered, left, root, leaf, parent, top, own, leafOf, cyclic, rises, bare, addedLeaf, grownTree}
-use Rattle.format.specs.Sheet.{outcome, allCommands, commands, takesTwo, beyond, whole, overgrown, astray}
+use Rattle.format.specs.Sheet.{outcomeOf, allCommands, commands, takesTwo, takesNone, beyond, whole, fitted, overgrown, astray}
 use Rattle.graph.specs.Placing.{hangs}
 use Rattle.graph.specs.Order.{countAnswer}
 use Rattle.graph.specs.Rule1.{problem, up, rise, depth, shallowest, problemLeaf, staying, lowestLeaf, shifted}
@@ -36,7 +36,7 @@ every-holds (r ∷ rs) h (suc i) l =
 
 -- the table, computed
 pub all-true : every rows ≡ true
-unfolding every rows numbered printed outcome allCommands commands takesTwo beyond whole cyclic rises overgrown bare addedLeaf grownTree astray listed configured countAnswer countLine readingLine digits decimal drawing fragmentText leafText separated pairs joined sameEdge cycle dominanceAt hypernormal hypernormalCycle problem up rise depth shallowest problemLeaf staying lowestLeaf shifted hangs among different entered left root leaf parent top own leafOf any all count least spread select
+unfolding every rows numbered printed outcomeOf allCommands commands takesTwo takesNone beyond whole fitted cyclic rises overgrown bare addedLeaf grownTree astray listed configured countAnswer countLine readingLine digits decimal drawing fragmentText leafText separated pairs joined sameEdge cycle dominanceAt hypernormal hypernormalCycle problem up rise depth shallowest problemLeaf staying lowestLeaf shifted hangs among different entered left root leaf parent top own leafOf any all count least spread select
 all-true = refl
 
 -- the row with any number below the table's length holds

@@ -15,6 +15,7 @@ use Rattle.graph.specs.declared.Fragment.{Fragment}
 use Rattle.format.specs.Sheet.{Content, Outcome, refused, accepted, outcome, tidy}
 use Rattle.format.specs.Refusal.{number}
 use Rattle.theory_format.proofs.Spelling.{accepted-grown}
+use Rattle.format.specs.declared.Form.the-variants.{Plain}
 use Rattle.theory_format.proofs.Refusals.{refused-number, not-9}
 use Rattle.check_placing.specs.Answered.{Answered}
 use Rattle.check_placing.specs.declared.Answers.{Answers}
@@ -95,15 +96,15 @@ no-placing (PlacingCall.answered a f x) h e =
 
 -- 1 to 4, 6, 8, 12 and 13 are the sheet's, and after them comes only 10
 never : (bs : List ℕ) (small : Content → Type 0) (o : Outcome) (k : ℕ) → outcome bs ≡ o → Numbered (λ s. First 10 (small s) NoRefusal) o k → k ≡ asNoReading → ⊥
-never bs small (refused why) k is e n = not-9 (number why) (refused-number bs why is) (sym e ∙ n)
+never bs small (refused why) k is e n = not-9 Plain (number why) (refused-number Plain bs why is) (sym e ∙ n)
 never bs small (accepted s) k is x n = ⊎-elim (λ (y : small s × (k ≡ 10)). omega (arith, n, y .1)) (λ (y : (small s → ⊥) × (k ≡ 0)). omega (arith, n, y .1)) x
 
 nodes-never : (bs : List ℕ) (o : Outcome) (r : Measured) → outcome bs ≡ o → NodesOf o r → measuredNumber r ≡ asNoReading → ⊥
-nodes-never bs (refused why) r is e n = not-9 (number why) (refused-number bs why is) (sym (ap measuredNumber e) ∙ n)
+nodes-never bs (refused why) r is e n = not-9 Plain (number why) (refused-number Plain bs why is) (sym (ap measuredNumber e) ∙ n)
 nodes-never bs (accepted s) r is e n = omega (arith, n, ap measuredNumber e)
 
 cycle-never : (bs cycle : List ℕ) (o : Outcome) (r : CycleChecked) → outcome bs ≡ o → CycleOf o cycle r → cycleNumber r ≡ asNoReading → ⊥
-cycle-never bs cycle (refused why) r is e n = not-9 (number why) (refused-number bs why is) (sym (ap cycleNumber e) ∙ n)
+cycle-never bs cycle (refused why) r is e n = not-9 Plain (number why) (refused-number Plain bs why is) (sym (ap cycleNumber e) ∙ n)
 cycle-never bs cycle (accepted s) r is e n = omega (arith, n, ap cycleNumber e)
 
 placing-number : (o : Outcome) (bytes : List ℕ) (r : PlacingChecked) → PlacingOf o bytes r → PlacingNumbered bytes o (placingNumber r)

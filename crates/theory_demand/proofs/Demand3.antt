@@ -6,7 +6,7 @@ use native.Mathlib.Omega.{arith}
 use lib.ListN.{length, take}
 use lib.Seq.{take-length}
 use Rattle.graph.specs.Graph.{Graph, grown}
-use Rattle.format.specs.Sheet.{Content, Outcome, outcome, accepted}
+use Rattle.format.specs.Sheet.{Labels, Content, Outcome, outcome, accepted}
 use Rattle.graph.specs.Placing.{Below, Contains}
 use Rattle.graph.specs.Order.{Listing, ExactlyOne}
 use Rattle.theory_format.proofs.Spelling.{accepted-grown, accepted-well-formed}
@@ -21,11 +21,11 @@ use Rattle.theory_demand.specs.Demand.{Call, Chain, handedOut, lentEnoug
 use Rattle.theory_demand.proofs.Refusing.{count-refuses, reading-refuses, configuration-refuses, drawing-refuses, reading-cycle, configuration-cycle, configuration-given}
 use Rattle.theory_demand.proofs.Handing.{chain-hands}
 
-module _ (written g : Graph) (s : Shaped g) (cs : List Call) (c : Chain (accepted (record { written = written; graph = g })) 0 cs) (ps : List (List ℕ)) (l : Listing g ps) where
+module _ (written g : Graph) (labels : Labels) (s : Shaped g) (cs : List Call) (c : Chain (accepted (record { written = written; graph = g; labels = labels })) 0 cs) (ps : List (List ℕ)) (l : Listing g ps) where
   handed-in-turn : handedOut (g .nodes) cs ≡ take (least (g .nodes) cs ps) ps
   handed-in-turn =
       let same : min (lentEnough (g .nodes) cs) (reach ps - 0) ≡ least (g .nodes) cs ps = omega arith in
-      chain-hands g s ps l written cs 0 (omega arith) c ∙ ap (λ (k : ℕ). take k ps) same
+      chain-hands g s ps l written labels cs 0 (omega arith) c ∙ ap (λ (k : ℕ). take k ps) same
 
   handed-all : least (g .nodes) cs ps ≡ length ps → handedOut (g .nodes) cs ≡ listed g
   handed-all e = handed-in-turn ∙ ap (λ (k : ℕ). take k ps) e ∙ take-length ps ∙ listing-unique g s l (listing-exists g s)
@@ -46,9 +46,9 @@ of-meaning bs x e =
       configuration-gives = λ old new r h c n. configuration-given s (subst (λ (o : Outcome). ConfigurationOf o old r new) e c) h n;
       not-both = λ cs p h f. no-both g cs w h (p, f);
       the-order = (listed g, listing-exists g s, λ qs l. listing-unique g s l (listing-exists g s));
-      in-turn = λ cs c ps l. handed-in-turn (x .written) g s cs (subst (λ (o : Outcome). Chain o 0 cs) e c) ps l;
+      in-turn = λ cs c ps l. handed-in-turn (x .written) g (x .labels) s cs (subst (λ (o : Outcome). Chain o 0 cs) e c) ps l;
       exactly-one = λ cs c ps l k p f.
-          subst (ExactlyOne (λ q. Contains (Below g p) (Below g q))) (sym (handed-all (x .written) g s cs (subst (λ (o : Outcome). Chain o 0 cs) e c) ps l k)) (one-below g s p f);
+          subst (ExactlyOne (λ q. Contains (Below g p) (Below g q))) (sym (handed-all (x .written) g (x .labels) s cs (subst (λ (o : Outcome). Chain o 0 cs) e c) ps l k)) (one-below g s p f);
     }
 
 -- 02, Two: "the mission's third demand speaks of the grown graph", that of the nodes and edges written

@@ -12,7 +12,7 @@ use lib.ListN.{length, take, drop}
 use lib.Seq.{take-at, drop-cons}
 use borrow.Author.Tests.{le-leb, lt-leb}
 use Rattle.graph.specs.Graph.{Graph}
-use Rattle.format.specs.Sheet.{accepted}
+use Rattle.format.specs.Sheet.{Labels, accepted}
 use Rattle.graph.specs.Order.{Listing, entry}
 use Rattle.theory_forest.specs.Shape.{Shaped}
 use Rattle.theory_list.proofs.Readings.{listing-unique, listing-exists, unsolvable-empty}
@@ -63,9 +63,9 @@ module _ (g : Graph) (s : Shaped g) (ps : List (List ℕ)) (l : Listing g ps) wh
         rw (take-at (entry qs m) (drop (g .nodes) old) (g .nodes) whole, e, le-leb (2 * g .nodes) (length old)) (one-more k m there),
       )
 
-  pub chain-hands : (written : Graph) (cs : List Call) (m : ℕ) → m ≤ reach ps → Chain (accepted (record { written = written; graph = g })) m cs → handedOut (g .nodes) cs ≡ next ps (lentEnough (g .nodes) cs) m
+  pub chain-hands : (written : Graph) (labels : Labels) (cs : List Call) (m : ℕ) → m ≤ reach ps → Chain (accepted (record { written = written; graph = g; labels = labels })) m cs → handedOut (g .nodes) cs ≡ next ps (lentEnough (g .nodes) cs) m
   unfolding handedOut lentEnough
-  chain-hands written [] m h c = let z : min 0 (reach ps - m) ≡ 0 = omega arith in rw z
-  chain-hands written (c ∷ cs) m h x =
+  chain-hands written labels [] m h c = let z : min 0 (reach ps - m) ≡ 0 = omega arith in rw z
+  chain-hands written labels (c ∷ cs) m h x =
       let o = one-call (x .0) h (lentEnough (g .nodes) cs) in
-      rw (chain-hands written cs (c .place) (o .0) (x .1)) (o .1)
+      rw (chain-hands written labels cs (c .place) (o .0) (x .1)) (o .1)

@@ -24,6 +24,10 @@ sum (suc n) f = sum n f + f n
 unfoldable pub total : ℕ → List Edge → ℕ
 total n es = sum n (λ u. count n (among es u))
 
+-- the graph with n nodes, the tree edges t and the dominance edges d
+abbrev pub graphWith : ℕ → List Edge → List Edge → Graph
+graphWith n t d = record { nodes = n; tree = t; dominance = d }
+
 -- the trees of a graph with these dominance edges alone
 abbrev pub over : Graph → List Edge → Graph
 over g es = record { nodes = g .nodes; tree = g .tree; dominance = es }

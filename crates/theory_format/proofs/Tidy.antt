@@ -14,7 +14,9 @@ use Rattle.base_finite.specs.Below.{count, spread}
 use Rattle.base_finite.proofs.Laws.{by-bool, spread-ext, count-le, count-none, count-one-more, not-holding, test-ext}
 use Rattle.base_finite.proofs.Counting.{count-grows}
 use Rattle.graph.specs.Graph.{Edge, Graph, among, different, entered, single, root, parent, own, addedLeaf, grown, WellWritten, Agree}
-use Rattle.format.specs.Sheet.{Content, accepted, content, longest, outcome, EdgeCommand, tree-edge, dominance-edge, spelt, written, sheet, spells, tidyTree, tidyDominance, tidy}
+use Rattle.format.specs.Sheet.{Content, accepted, content, longest, outcomeOf, outcome, SheetCommand, tree-edge, dominance-edge, label, differ, spelt, written, inForm, sheet, spells, tidyTree, tidyDominance, tidy}
+use Rattle.format.specs.declared.Form.{Form}
+use Rattle.format.specs.declared.Form.the-variants.{Plain}
 use Rattle.theory_edges.specs.Edges.{Within, distinct, sum}
 use Rattle.theory_edges.proofs.Edges.{among-unentered, parent-among, parent-only, one-parent, sum-ext, different-same, different-short, distinct-different}
 use Rattle.theory_format.proofs.Whole.{accepted-same}
@@ -113,16 +115,16 @@ tidy-dominance g = sym (triples-table 3 (g .nodes) (among (g .dominance)) (λ l 
 
 -- the commands
 
-abbrev toTree : Edge → EdgeCommand
+abbrev toTree : Edge → SheetCommand
 toTree e = tree-edge (e .0) (e .1)
 
-abbrev toDominance : Edge → EdgeCommand
+abbrev toDominance : Edge → SheetCommand
 toDominance e = dominance-edge (e .0) (e .1)
 
-unfoldable pub tidyCommands : Graph → List EdgeCommand
+unfoldable pub tidyCommands : Graph → List SheetCommand
 tidyCommands g = map toTree (treeEdges g) ++ map toDominance (dominanceEdges g)
 
-spelt-trees : (es : List Edge) (cs : List EdgeCommand) → spelt (map toTree es ++ cs) ≡ triples 2 es ++ spelt cs
+spelt-trees : (es : List Edge) (cs : List SheetCommand) → spelt (map toTree es ++ cs) ≡ triples 2 es ++ spelt cs
 unfolding spelt triples
 spelt-trees [] cs = refl
 spelt-trees (e ∷ es) cs = rw (spelt-trees es cs)
@@ -132,13 +134,24 @@ unfolding spelt triples
 spelt-dominances [] = refl
 spelt-dominances (e ∷ es) = rw (spelt-dominances es)
 
+-- edges are in place in either form
+edges-in-form : (f : Form) (es ds : List Edge) → inForm f (map toTree es ++ map toDominance ds) ≡ true
+unfolding inForm
+edges-in-form f [] [] = refl
+edges-in-form f [] (d ∷ ds) = edges-in-form f [] ds
+edges-in-form f (e ∷ es) ds = edges-in-form f es ds
+
+tidy-in-form : (f : Form) (g : Graph) → inForm f (tidyCommands g) ≡ true
+unfolding tidyCommands
+tidy-in-form f g = edges-in-form f (treeEdges g) (dominanceEdges g)
+
 pub tidy-spells : (g : Graph) → tidy g ≡ sheet (g .nodes) (tidyCommands g)
 unfolding tidy sheet tidyCommands
 tidy-spells g =
     let joined : triples 2 (treeEdges g) ++ triples 3 (dominanceEdges g) ++ (0 ∷ []) ≡ triples 2 (treeEdges g) ++ (triples 3 (dominanceEdges g) ++ (0 ∷ [])) = append-assoc (triples 2 (treeEdges g)) (triples 3 (dominanceEdges g)) (0 ∷ []) in
     rw (tidy-tree, tidy-dominance, spelt-trees, spelt-dominances) (ap (λ (l : List ℕ). 1 ∷ g .nodes ∷ l) joined)
 
-written-trees : (n : ℕ) (t d : List Edge) (es : List Edge) (cs : List EdgeCommand) → written n t d (map toTree es ++ cs) ≡ written n (reverseAux es t) d cs
+written-trees : (n : ℕ) (t d : List Edge) (es : List Edge) (cs : List SheetCommand) → written n t d (map toTree es ++ cs) ≡ written n (reverseAux es t) d cs
 unfolding written
 written-trees n t d [] cs = refl
 written-trees n t d (e ∷ es) cs = written-trees n (e ∷ t) d es cs
@@ -236,17 +249,17 @@ tidy-room g w = omega (arith, tidy-length g w, few-parents g w, few-written g w,
 pub tidy-accepted : (g : Graph) → WellWritten g → (h : Graph) × (outcome (tidy g) ≡ accepted (content h)) × Agree g h
 tidy-accepted g w =
     let n : ℕ = g .nodes in
-    let cs : List EdgeCommand = tidyCommands g in
+    let cs : List SheetCommand = tidyCommands g in
     let same : spells n cs ≡ tidied g = spells-tidied g in
     let short : length (sheet n cs) ≤ longest = subst (λ (l : List ℕ). length l ≤ longest) (tidy-spells g) (omega (arith, tidy-room g w)) in
-    let r = spells-accepted n cs (subst WellWritten (sym same) (tidied-well-written g w)) short in
+    let r = spells-accepted n cs (tidy-in-form Plain g) (subst WellWritten (sym same) (tidied-well-written g w)) short in
     (r .0, ap outcome (tidy-spells g) ∙ r .1, agree-trans g (tidied g) (r .0) (tidied-agrees g w) (agree-sym (r .0) (tidied g) (subst (Agree (r .0)) same (r .2))))
 
 -- 02, One: "tidying keeps the set of edges", of what the sheet and its tidy sheet write, however often
 pub tidy-keeps : (bs : List ℕ) (s : Content) → outcome bs ≡ accepted s
-    → (cs : List EdgeCommand) × (ds : List EdgeCommand) × (bs ≡ sheet (s .written .nodes) cs) × (tidy (s .written) ≡ sheet (s .written .nodes) ds) × Agree (spells (s .written .nodes) cs) (spells (s .written .nodes) ds)
+    → (cs : List SheetCommand) × (ds : List SheetCommand) × (bs ≡ sheet (s .written .nodes) cs) × (tidy (s .written) ≡ sheet (s .written .nodes) ds) × Agree (spells (s .written .nodes) cs) (spells (s .written .nodes) ds)
 tidy-keeps bs s e =
-    let a = accepted-spells bs s e in
+    let a = accepted-spells Plain bs s e in
     let g : Graph = s .written in
     let written-so : Graph = spells (g .nodes) (a .commands) in
     let same : spells (g .nodes) (tidyCommands g) ≡ tidied g = spells-tidied g in
@@ -254,7 +267,7 @@ tidy-keeps bs s e =
 
 -- 02, One: "The tidy sheet has each edge once"
 pub each-edge-once : (g : Graph)
-    → (cs : List EdgeCommand) × (tidy g ≡ sheet (g .nodes) cs) × (distinct (spells (g .nodes) cs .tree) ≡ true) × (distinct (spells (g .nodes) cs .dominance) ≡ true)
+    → (cs : List SheetCommand) × (tidy g ≡ sheet (g .nodes) cs) × (distinct (spells (g .nodes) cs .tree) ≡ true) × (distinct (spells (g .nodes) cs .dominance) ≡ true)
 unfolding tidied
 each-edge-once g =
     let same : spells (g .nodes) (tidyCommands g) ≡ tidied g = spells-tidied g in
@@ -275,42 +288,40 @@ tidy-same g h k =
 
 -- a tidy sheet is no longer than a sheet that it comes from
 
-written-length : (n : ℕ) (t d : List Edge) (cs : List EdgeCommand) → length (written n t d cs .tree) + length (written n t d cs .dominance) ≡ length t + length d + length cs
-unfolding written
-written-length n t d [] = omega arith
-written-length n t d (tree-edge p c ∷ cs) = omega (arith, written-length n ((p, c) ∷ t) d cs)
-written-length n t d (dominance-edge l r ∷ cs) = omega (arith, written-length n t ((l, r) ∷ d) cs)
-
-spelt-length : (cs : List EdgeCommand) → length (spelt cs) ≡ 1 + 3 * length cs
-unfolding spelt
-spelt-length [] = refl
-spelt-length (tree-edge p c ∷ cs) = omega (arith, spelt-length cs)
-spelt-length (dominance-edge l r ∷ cs) = omega (arith, spelt-length cs)
+-- three bytes for each edge that is written, and the end
+spelt-room : (n : ℕ) (t d : List Edge) (cs : List SheetCommand)
+    → 1 + 3 * (length (written n t d cs .tree) + length (written n t d cs .dominance)) ≤ length (spelt cs) + 3 * (length t + length d)
+unfolding written spelt
+spelt-room n t d [] = omega arith
+spelt-room n t d (tree-edge p c ∷ cs) = omega (arith, spelt-room n ((p, c) ∷ t) d cs)
+spelt-room n t d (dominance-edge l r ∷ cs) = omega (arith, spelt-room n t ((l, r) ∷ d) cs)
+spelt-room n t d (label p x ∷ cs) = omega (arith, spelt-room n t d cs)
+spelt-room n t d (differ ∷ cs) = omega (arith, spelt-room n t d cs)
 
 tree-edges-few : (g : Graph) → WellWritten g → count (g .nodes) (entered (g .tree)) ≤ length (g .tree)
 tree-edges-few g w =
     let same : different (g .tree) ≡ different (treeEdges g) = different-same (g .nodes) (g .tree) (treeEdges g) (w .tree-within) (λ p c. sym (tree-edges-among g (w .tree-within) p c)) in
     omega (arith, tree-edges-length g w, distinct-different (treeEdges g) (tree-edges-distinct g), same, different-short (g .tree))
 
-tidy-spelt : (n : ℕ) (cs : List EdgeCommand) → WellWritten (spells n cs) → length (tidy (spells n cs)) ≤ length (sheet n cs)
+tidy-spelt : (n : ℕ) (cs : List SheetCommand) → WellWritten (spells n cs) → length (tidy (spells n cs)) ≤ length (sheet n cs)
 unfolding spells sheet
 tidy-spelt n cs w =
     let g : Graph = written n [] [] cs in
-    omega (arith, tidy-length g w, tree-edges-few g w, different-short (g .dominance), written-length n [] [] cs, spelt-length cs)
+    omega (arith, tidy-length g w, tree-edges-few g w, different-short (g .dominance), spelt-room n [] [] cs)
 
-pub tidy-no-longer : (bs : List ℕ) (s : Content) → outcome bs ≡ accepted s → length (tidy (s .written)) ≤ length bs
-tidy-no-longer bs s e =
-    let a = accepted-spells bs s e in
+pub tidy-no-longer : (f : Form) (bs : List ℕ) (s : Content) → outcomeOf f bs ≡ accepted s → length (tidy (s .written)) ≤ length bs
+tidy-no-longer f bs s e =
+    let a = accepted-spells f bs s e in
     let g : Graph = s .written in
     let n : ℕ = g .nodes in
-    let cs : List EdgeCommand = a .commands in
+    let cs : List SheetCommand = a .commands in
     let same : length (tidy g) ≡ length (tidy (spells n cs)) = ap length (tidy-same g (spells n cs) (a .agrees)) in
     let bytes : length bs ≡ length (sheet n cs) = ap length (a .bytes) in
     omega (arith, same, bytes, tidy-spelt n cs (a .spelt-well-written))
 
 -- the tidy sheet of what a sheet writes, accepted
 tidy-again : (bs : List ℕ) (s : Content) → outcome bs ≡ accepted s → (h : Graph) × (outcome (tidy (s .written)) ≡ accepted (content h)) × Agree (s .written) h
-tidy-again bs s e = tidy-accepted (s .written) (accepted-spells bs s e .well-written)
+tidy-again bs s e = tidy-accepted (s .written) (accepted-spells Plain bs s e .well-written)
 
 pub tidy-twice : (bs : List ℕ) (s t : Content) → outcome bs ≡ accepted s → outcome (tidy (s .written)) ≡ accepted t → tidy (t .written) ≡ tidy (s .written)
 tidy-twice bs s t e f =

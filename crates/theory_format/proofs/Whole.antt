@@ -1,5 +1,5 @@
--- The tests after the last command: a sheet whose commands were all taken passes them exactly when what it writes is
--- well-formed, and what is then accepted is that, grown. `Taken` says what the tests within the commands have left:
+-- The tests after the last command: a sheet whose commands were all taken passes them, up to those of its labels, exactly when what it
+-- writes is well-formed, and what is then accepted is that, grown. `Taken` says what the tests within the commands have left:
 -- it is what holds of n, the tree edges and the dominance edges at any point of the sheet.
 use Prim.Native.Nat.{ℕ, _≤_}
 use mathlib.Core.Path.{_≡_, refl, sym, _∙_}
@@ -10,9 +10,10 @@ use borrow.Author.Tests.{not-false, le-ltb, ltb-false}
 use Rattle.base_finite.specs.Below.{any}
 use Rattle.base_finite.proofs.Laws.{by-bool, and-both, any-none, any-false, not-holding}
 use Rattle.graph.specs.Graph.{Edge, Graph, among, different, single, root, leaf, DominanceEdge, cyclic, grown, WellWritten}
-use Rattle.format.specs.Sheet.{Content, Outcome, refused, accepted, content, overgrown, astray, whole}
+use Rattle.format.specs.Sheet.{Labels, unlabelled, Content, Outcome, refused, accepted, says, content, overgrown, astray, mislabelled, overlapping, holed, fitted, whole, takesLabels}
 use Rattle.format.specs.declared.Refusal.{Refusal}
-use Rattle.format.specs.declared.Refusal.the-variants.{Tree, Ends, Overgrown}
+use Rattle.format.specs.declared.Form.the-variants.{Plain}
+use Rattle.format.specs.declared.Refusal.the-variants.{Tree, Ends, Overgrown, Label, Overlap, Hole}
 use Rattle.theory_edges.specs.Edges.{Within}
 use Rattle.theory_edges.proofs.Cyclic.{cycle-of-cyclic, cyclic-of-cycle}
 
@@ -35,16 +36,26 @@ pub passed : (b : Bool) (x : Refusal) (o : Outcome) (s : Content) → cond b (re
 passed true x o s e = absurd (not-refused x s e)
 passed false x o s e = (refl, e)
 
-pub whole-passed : (g : Graph) (s : Content) → whole g ≡ accepted s → (cyclic g ≡ false) × (overgrown g ≡ false) × (astray (grown g) ≡ false) × (content g ≡ s)
-unfolding whole
-whole-passed g s e =
-    let a = passed (cyclic g) Tree (cond (overgrown g) (refused Overgrown) (cond (astray (grown g)) (refused Ends) (accepted (content g)))) s e in
-    let b = passed (overgrown g) Overgrown (cond (astray (grown g)) (refused Ends) (accepted (content g))) s (a .1) in
-    let c = passed (astray (grown g)) Ends (accepted (content g)) s (b .1) in
-    (a .0, b .0, c .0, accepted-same (content g) s (c .1))
+pub fitted-same : (g : Graph) (m : Labels) (s : Content) → fitted g m ≡ accepted s → s ≡ says g m
+unfolding fitted
+fitted-same g m s e =
+    let a = passed (takesLabels (m .form) && mislabelled g (m .symbols)) Label _ s e in
+    let b = passed (takesLabels (m .form) && overlapping g m) Overlap _ s (a .1) in
+    let c = passed (takesLabels (m .form) && holed g (m .symbols)) Hole (accepted (says g m)) s (b .1) in
+    sym (accepted-same (says g m) s (c .1))
 
-pub whole-same : (g : Graph) (s : Content) → whole g ≡ accepted s → s ≡ content g
-whole-same g s e = sym (whole-passed g s e .3)
+-- a plain sheet has nothing to fit
+pub fitted-plain : (g : Graph) → fitted g (unlabelled Plain) ≡ accepted (content g)
+unfolding fitted
+fitted-plain g = refl
+
+pub whole-passed : (g : Graph) (m : Labels) (s : Content) → whole g m ≡ accepted s → (cyclic g ≡ false) × (overgrown g ≡ false) × (astray (grown g) ≡ false) × (fitted g m ≡ accepted s)
+unfolding whole
+whole-passed g m s e =
+    let a = passed (cyclic g) Tree (cond (overgrown g) (refused Overgrown) (cond (astray (grown g)) (refused Ends) (fitted g m))) s e in
+    let b = passed (overgrown g) Overgrown (cond (astray (grown g)) (refused Ends) (fitted g m)) s (a .1) in
+    let c = passed (astray (grown g)) Ends (fitted g m) s (b .1) in
+    (a .0, b .0, c .0, c .1)
 
 leaf-to-root-of : (g : Graph) → Within (g .nodes) (g .dominance) → astray g ≡ false → (l r : ℕ) → DominanceEdge g l r → (leaf g l ≡ true) × (root g r ≡ true)
 unfolding astray
@@ -63,10 +74,10 @@ not-astray g h =
     (λ l _. any-none n (λ r. among (g .dominance) l r && not (leaf g l && root g r))
     (λ r _. by-bool (among (g .dominance) l r) (λ d. let b = h l r d in rw (d, b .0, b .1)) (λ d. rw d)))
 
-pub well-written-of-whole : (g : Graph) → Taken (g .nodes) (g .tree) (g .dominance) → whole g ≡ accepted (content g) → WellWritten g
+pub well-written-of-whole : (g : Graph) (m : Labels) (s : Content) → Taken (g .nodes) (g .tree) (g .dominance) → whole g m ≡ accepted s → WellWritten g
 unfolding overgrown
-well-written-of-whole g k e =
-    let p = whole-passed g (content g) e in
+well-written-of-whole g m s k e =
+    let p = whole-passed g m s e in
     let within : Within (grown g .nodes) (g .dominance) = λ l r h. let b = k .dominance-within l r h in (omega (arith, b .0), omega (arith, b .1)) in
     record {
       some-nodes = k .some-nodes;
@@ -79,8 +90,8 @@ well-written-of-whole g k e =
       few-edges = k .few-edges;
     }
 
-pub whole-of-well-written : (g : Graph) → WellWritten g → whole g ≡ accepted (content g)
+pub whole-of-well-written : (g : Graph) (m : Labels) → WellWritten g → whole g m ≡ fitted g m
 unfolding whole overgrown
-whole-of-well-written g w =
+whole-of-well-written g m w =
     let a : cyclic g ≡ false = not-holding (cyclic g) (λ h. let r = cycle-of-cyclic g (w .tree-within) h in w .no-tree-cycle (r .0) (r .1)) in
     rw (a, le-ltb 128 (grown g .nodes) (w .few-nodes), not-astray (grown g) (w .leaf-to-root))

@@ -16,7 +16,7 @@ returns : tie.Need-returns
 returns c =
     let call = c .before .before .tidy in
     let args = c .before .before .before .before .before .before .args in
-    (call .ensures, tidy-numbered (outcome (now (args .sheet))) (call .result) (now (args .out)) (call .last .1 .0) (call .ensures))
+    (call .ensures, tidy-numbered (outcome (now (args .sheet))) (call .result) (now (args .out)) (call .last .1 .1 .0) (call .ensures))
 
 pub tidy-spec : {M : Type 1} → statement M
 tidy-spec = tie.close (tie.spec tidy-requires same-length returns)

@@ -26,13 +26,13 @@ slice-aggregate-write-3 c = search needs
 write-requires : tie.Need-write-requires
 write-requires c κs =
     let r = c .before .before .before .before .before .before .before .before .before .before .read-written in
-    let a = written-accepted (now (c .before .before .before .before .before .before .before .before .before .before .before .before .before .args .sheet)) (r .result) (r .ensures) (c .before .before .before .before .enum-told .given .1) in
+    let a = written-accepted (c .before .before .before .before .before .before .before .before .before .before .before .before .before .args .form) (now (c .before .before .before .before .before .before .before .before .before .before .before .before .before .args .sheet)) (r .result) (r .ensures) (c .before .before .before .before .enum-told .given .1) in
     record { graph = a .0 .written; well-written = a .2; nodes = a .3 .nodes; holds = a .3 .tables }
 
 returns : tie.Need-returns
 returns c =
     let r = c .before .before .before .before .before .before .before .read-written in
-    rw (written-refused (now (c .before .before .before .before .before .before .before .before .before .before .args .sheet)) (r .result) _ (r .ensures) (c .before .verdict .given .1)) (refl, refl)
+    rw (written-refused (c .before .before .before .before .before .before .before .before .before .before .args .form) (now (c .before .before .before .before .before .before .before .before .before .before .args .sheet)) (r .result) (r .ensures) _ (c .before .verdict .given .1)) (refl, refl)
 
 same-length : tie.Need-same-length
 same-length c = search needs
@@ -40,7 +40,7 @@ same-length c = search needs
 returns-2 : tie.Need-returns-2
 returns-2 c =
     let r = c .before .before .before .before .before .before .before .before .before .before .before .before .before .read-written in
-    let a = written-accepted (now (c .before .before .before .before .before .before .before .before .before .before .before .before .before .before .before .before .args .sheet)) (r .result) (r .ensures) (c .before .before .before .before .before .before .before .enum-told .given .1) in
+    let a = written-accepted (c .before .before .before .before .before .before .before .before .before .before .before .before .before .before .before .before .args .form) (now (c .before .before .before .before .before .before .before .before .before .before .before .before .before .before .before .before .args .sheet)) (r .result) (r .ensures) (c .before .before .before .before .before .before .before .enum-told .given .1) in
     rw (a .1) (c .before .before .write .ensures (record { graph = a .0 .written; well-written = a .2; nodes = a .3 .nodes; holds = a .3 .tables }))
 
 pub tidy-spec : {M : Type 1} → statement M

@@ -18,7 +18,7 @@ enum-told : tie.Need-enum-told
 enum-told c = search needs
 
 returns : tie.Need-returns
-returns c = command-missing _ _ (c .before .before .needed .result) (c .before .before .needed .ensures) _ (c .enum-told .given .1)
+returns c = command-missing _ _ _ (c .before .before .needed .result) (c .before .before .needed .ensures) _ (c .enum-told .given .1)
 
 sub-in-place : tie.Need-sub-in-place
 sub-in-place c = omega (arith, byte-within (now (c .before .before .before .before .before .args .sheet)) (c .before .before .before .before .before .args .at) (c .before .before .before .needed .result) _ (c .before .before .before .needed .ensures) (c .before .byte .given .1))
@@ -29,12 +29,12 @@ in-place-requires c κs = search needs
 returns-2 : tie.Need-returns-2
 returns-2 c =
     let a = c .before .before .before .before .before .before .before .args in
-    command-placed (eqb (a .at) 0) (drop (a .at) (now (a .sheet))) (c .before .before .before .before .before .needed .result) (c .before .before .before .before .before .needed .ensures) _ (c .before .before .before .byte .given .1) (rw length-drop (sym (c .before .in-place .ensures) ∙ c .if1 .taken))
+    command-placed (a .form) (eqb (a .at) 0) (drop (a .at) (now (a .sheet))) (c .before .before .before .before .before .needed .result) (c .before .before .before .before .before .needed .ensures) _ (c .before .before .before .byte .given .1) (rw length-drop (sym (c .before .in-place .ensures) ∙ c .if1 .taken))
 
 returns-3 : tie.Need-returns-3
 returns-3 c =
     let a = c .before .before .before .before .before .before .before .args in
-    command-astray (eqb (a .at) 0) (drop (a .at) (now (a .sheet))) (c .before .before .before .before .before .needed .result) (c .before .before .before .before .before .needed .ensures) _ (c .before .before .before .byte .given .1) (rw length-drop (sym (c .before .in-place .ensures) ∙ c .if1 .left))
+    command-astray (a .form) (eqb (a .at) 0) (drop (a .at) (now (a .sheet))) (c .before .before .before .before .before .needed .result) (c .before .before .before .before .before .needed .ensures) _ (c .before .before .before .byte .given .1) (rw length-drop (sym (c .before .in-place .ensures) ∙ c .if1 .left))
 
 pub command-spec : {M : Type 1} → statement M
 command-spec =

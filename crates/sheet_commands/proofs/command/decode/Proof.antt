@@ -2,7 +2,7 @@ use mathlib.Core.Path.{_∙_}
 use native.Mathlib.Omega.{arith}
 use lib.Seq.{drop-drop}
 use denote.Ref.{now}
-use Rattle.sheet_commands.proofs.Steps.{command-within, step-missing, step-end, step-operands}
+use Rattle.sheet_commands.proofs.Steps.{command-within, step-missing, step-end, step-differ, step-operands}
 use borrow.Author.Needs.{needs}
 use Rattle.sheet_commands.proofs.command.decode.Statement.{statement}
 use Rattle.sheet_commands.proofs.command.decode.Tie as tie
@@ -20,21 +20,24 @@ stop-requires : tie.Need-stop-requires
 stop-requires c κs = search needs
 
 returns : tie.Need-returns
-returns c = c .stop .ensures ∙ step-missing _ _ (c .before .before .before .command .result) (c .before .before .before .command .ensures) _ (c .before .enum-told .given .1)
+returns c = c .stop .ensures ∙ step-missing _ _ _ (c .before .before .before .command .result) (c .before .before .before .command .ensures) _ (c .before .enum-told .given .1)
 
 returns-2 : tie.Need-returns-2
-returns-2 c = step-end _ _ (c .before .before .before .before .command .result) (c .before .before .before .before .command .ensures) _ (c .before .before .byte .given .1) (c .if1 .taken)
+returns-2 c = step-end _ _ _ (c .before .before .before .before .command .result) (c .before .before .before .before .command .ensures) _ (c .before .before .byte .given .1) (c .if1 .taken)
+
+returns-3 : tie.Need-returns-3
+returns-3 c = step-differ _ _ _ (c .before .before .before .before .before .command .result) (c .before .before .before .before .before .command .ensures) _ (c .before .before .before .byte .given .1) (c .if2 .taken)
 
 add-operands : tie.Need-add-operands
-add-operands c = omega (arith, command-within _ (now (c .before .before .before .before .before .before .args .sheet)) (c .before .before .before .before .before .before .args .at) (c .before .before .before .before .command .result) _ (c .before .before .before .before .command .ensures) (c .before .before .byte .given .1))
+add-operands c = omega (arith, command-within (c .before .before .before .before .before .before .before .args .form) _ (now (c .before .before .before .before .before .before .before .args .sheet)) (c .before .before .before .before .before .before .before .args .at) (c .before .before .before .before .before .command .result) _ (c .before .before .before .before .before .command .ensures) (c .before .before .before .byte .given .1))
 
 operands-requires : tie.Need-operands-requires
 operands-requires c κs = search needs
 
-returns-3 : tie.Need-returns-3
-returns-3 c =
-    let a = c .before .before .before .before .before .before .before .args in
-    c .operands .ensures ∙ rw (← drop-drop 1 (a .at) (now (a .sheet))) (step-operands _ _ (c .before .before .before .before .before .command .result) (c .before .before .before .before .before .command .ensures) _ (c .before .before .before .byte .given .1) (c .before .if1 .left))
+returns-4 : tie.Need-returns-4
+returns-4 c =
+    let a = c .before .before .before .before .before .before .before .before .args in
+    c .operands .ensures ∙ rw (← drop-drop 1 (a .at) (now (a .sheet))) (step-operands _ _ _ (c .before .before .before .before .before .before .command .result) (c .before .before .before .before .before .before .command .ensures) _ (c .before .before .before .before .byte .given .1) (c .before .before .if1 .left) (c .before .if2 .left))
 
 pub decode-spec : {M : Type 1} → statement M
 decode-spec =
@@ -46,6 +49,7 @@ decode-spec =
     stop-requires
     returns
     returns-2
+    returns-3
     add-operands
     operands-requires
-    returns-3)
+    returns-4)

@@ -3,7 +3,7 @@ use native.Mathlib.Omega.{arith}
 use lib.ListN.{drop}
 use lib.Seq.{drop-drop}
 use denote.Ref.{now}
-use Rattle.sheet_commands.proofs.Steps.{byte-within, operand-missing, operand-nodes, second-missing, operands-tree, operands-dominance}
+use Rattle.sheet_commands.proofs.Steps.{byte-within, operand-missing, operand-nodes, second-missing, operands-tree, operands-dominance, operands-label}
 use borrow.Author.Needs.{needs}
 use Rattle.sheet_commands.proofs.command.operands.Statement.{statement}
 use Rattle.sheet_commands.proofs.command.operands.Tie as tie
@@ -53,8 +53,13 @@ returns-4 c =
 
 returns-5 : tie.Need-returns-5
 returns-5 c =
-    let a = c .before .before .before .before .before .before .before .before .before .before .before .args in
-    operands-dominance (a .command) (drop (a .at) (now (a .sheet))) (c .before .before .before .before .before .before .before .before .before .needed .result) (c .before .before .before .before .before .before .before .before .before .needed .ensures) _ (c .before .before .before .before .before .before .before .first .given .1) (c .before .before .before .before .before .if1 .left) (c .before .before .before .before .needed2 .result) (c .before .before .before .before .needed2 .ensures ∙ rw drop-drop) _ (c .before .before .second .given .1) (c .if2 .left)
+    let a = c .before .before .before .before .before .before .before .before .before .before .before .before .args in
+    operands-dominance (a .command) (drop (a .at) (now (a .sheet))) (c .before .before .before .before .before .before .before .before .before .before .needed .result) (c .before .before .before .before .before .before .before .before .before .before .needed .ensures) _ (c .before .before .before .before .before .before .before .before .first .given .1) (c .before .before .before .before .before .before .if1 .left) (c .before .before .before .before .before .needed2 .result) (c .before .before .before .before .before .needed2 .ensures ∙ rw drop-drop) _ (c .before .before .before .second .given .1) (c .if3 .taken)
+
+returns-6 : tie.Need-returns-6
+returns-6 c =
+    let a = c .before .before .before .before .before .before .before .before .before .before .before .before .args in
+    operands-label (a .command) (drop (a .at) (now (a .sheet))) (c .before .before .before .before .before .before .before .before .before .before .needed .result) (c .before .before .before .before .before .before .before .before .before .before .needed .ensures) _ (c .before .before .before .before .before .before .before .before .first .given .1) (c .before .before .before .before .before .before .if1 .left) (c .before .before .before .before .before .needed2 .result) (c .before .before .before .before .before .needed2 .ensures ∙ rw drop-drop) _ (c .before .before .before .second .given .1) (c .before .if2 .left) (c .if3 .left)
 
 pub operands-spec : {M : Type 1} → statement M
 operands-spec =
@@ -73,4 +78,5 @@ operands-spec =
     stop-requires-2
     returns-3
     returns-4
-    returns-5)
+    returns-5
+    returns-6)

@@ -13,8 +13,8 @@ decode-requires c κs = search needs
 width-requires : tie.Need-width-requires
 width-requires c κs = search needs
 
-add-t5 : tie.Need-add-t5
-add-t5 c = omega (arith, c .width .ensures, ap widthOf (c .before .decode .ensures), step-within (now (c .before .before .before .args .sheet)) (c .before .before .before .args .at))
+add-t6 : tie.Need-add-t6
+add-t6 c = omega (arith, c .width .ensures, ap widthOf (c .before .decode .ensures), step-within (c .before .before .before .args .form) (now (c .before .before .before .args .sheet)) (c .before .before .before .args .at))
 
 returns : tie.Need-returns
 returns c = rw (c .width .ensures, c .before .decode .ensures)
@@ -25,5 +25,5 @@ pass-spec =
     (tie.spec
     decode-requires
     width-requires
-    add-t5
+    add-t6
     returns)

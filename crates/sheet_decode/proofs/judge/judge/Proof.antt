@@ -2,7 +2,7 @@ use mathlib.Core.Path.{sym, _∙_}
 use native.Mathlib.Omega.{arith}
 use Rattle.base_finite.proofs.Laws.{count-le}
 use Rattle.base_nodeset.specs.Set.{mem}
-use Rattle.sheet_decode.proofs.Judges.{Sets, whole-tree, whole-overgrown, whole-ends, whole-accepted}
+use Rattle.sheet_decode.proofs.Judges.{Sets, whole-tree, whole-overgrown, whole-ends, whole-fitted}
 use denote.Ref.{now}
 use borrow.Author.Needs.{needs}
 use Rattle.sheet_decode.proofs.judge.judge.Statement.{statement}
@@ -86,7 +86,7 @@ returns-4 c t d edges h =
       is-roots = k .before .before .root-nodes .ensures;
       is-alone = k .before .difference .ensures;
     } in
-    whole-accepted h sets (k .count .result) (k .count .ensures) (omega (arith, c .before .before .before .if2 .left)) _ (c .before .before .union .ensures) (sym (c .before .astray .ensures) ∙ c .if3 .left)
+    whole-fitted h sets (k .count .result) (k .count .ensures) (omega (arith, c .before .before .before .if2 .left)) _ (c .before .before .union .ensures) (sym (c .before .astray .ensures) ∙ c .if3 .left)
 
 pub judge-spec : {M : Type 1} → statement M
 judge-spec =

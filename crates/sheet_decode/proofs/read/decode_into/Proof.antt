@@ -9,7 +9,7 @@ use Rattle.sheet_decode.proofs.read.decode_into.Tie as tie
 
 returns : tie.Need-returns
 unfolding Decodes
-returns c = too-long (now (c .before .before .before .before .before .args .sheet)) (omega (arith, c .if1 .taken))
+returns c = too-long (c .before .before .before .before .before .args .form) (now (c .before .before .before .before .before .args .sheet)) (omega (arith, c .if1 .taken))
 
 decode-commands-requires : tie.Need-decode-commands-requires
 decode-commands-requires c κs = search needs
@@ -24,7 +24,7 @@ same-length-3 : tie.Need-same-length-3
 same-length-3 c = search needs
 
 returns-2 : tie.Need-returns-2
-returns-2 c = rw (short-enough (now (c .before .before .before .before .before .before .before .before .before .before .before .before .before .before .before .args .sheet)) (omega arith)) (c .before .before .before .before .before .before .decode-commands .ensures)
+returns-2 c = rw (short-enough (c .before .before .before .before .before .before .before .before .before .before .before .before .before .before .before .args .form) (now (c .before .before .before .before .before .before .before .before .before .before .before .before .before .before .before .args .sheet)) (omega arith)) (c .before .before .before .before .before .before .decode-commands .ensures)
 
 pub decode-into-spec : {M : Type 1} → statement M
 decode-into-spec =
