@@ -17,12 +17,22 @@
  * command can name them. With them the sheet has n nodes, at most 128, as bixtogan_nodes tells;
  * where each node has a tree edge, n is w.
  *
+ * A labelled sheet, a normal dominance constraint, is for bixtogan_labelled alone, which makes a
+ * plain sheet of it for the other functions. It has two commands more, anywhere after the first:
+ *
+ *     0x05 p s    node p has the symbol s; 0 to 63 take no child, 64 to 127 one, 128 to 191 two,
+ *                 192 to 255 three
+ *     0x06        all labelled nodes differ; needed where there are two, and may be repeated
+ *
+ * A node has one label at most, and without one no child. A leaf without a label is a hole: it has
+ * a parent, and dominance edges start from holes alone.
+ *
  * A placing is n bytes, one for each node: of a root the leaf that it hangs under, and
  * BIXTOGAN_TOP of a root on top and of a node that is no root. Readings are placings, and so are
  * solved forms and configurations. Readings are numbered from 1.
  *
  * Every function returns BIXTOGAN_DONE, which is 0, or the number of a refusal, 1 to 4, 6 or 8 to
- * 13. Each tests its own input, so any bytes may be handed in. The sheet's refusals (1 to 4, 6, 8,
+ * 16. Each tests its own input, so any bytes may be handed in. The sheet's refusals (1 to 4, 6, 8,
  * 12 and 13) come first: 12 before all others, then the fault that is the earliest in its bytes; a
  * cycle of tree edges, 13 and 6 are looked for after the last command, in this order. The other
  * numbers come in the order in which the function lists them.
@@ -78,6 +88,12 @@ extern "C" {
 #define BIXTOGAN_TOO_LONG 12  /* the sheet has more than 2,048 bytes */
 #define BIXTOGAN_OVERGROWN 13 /* with a leaf added for each node without a tree edge, there are
                                  more than 128 nodes */
+/* .. or that a labelled sheet is no normal dominance constraint, .. */
+#define BIXTOGAN_LABEL 14   /* a node is labelled twice, or has not as many children as its symbol
+                               takes */
+#define BIXTOGAN_OVERLAP 15 /* two nodes are labelled, and nothing says that they differ */
+#define BIXTOGAN_HOLE 16    /* a dominance edge starts from a labelled leaf, or a node has neither
+                               label nor tree edge */
 /* .. or that it has no solved form, and so no reading, .. */
 #define BIXTOGAN_NO_READING 9
 /* .. or that the call asks what cannot be. */
@@ -160,6 +176,15 @@ uint8_t bixtogan_drawing(const uint8_t *sheet, size_t sheet_length, uint64_t num
  */
 uint8_t bixtogan_tidy(const uint8_t *sheet, size_t sheet_length,
                       uint8_t *out, size_t out_length, uint64_t *length);
+
+/*
+ * The plain sheet of a labelled one: its nodes and edges without the labels, tidy as bixtogan_tidy
+ * has them. out and length are as there.
+ *
+ * Refusals: the sheet's, 14, 15, 16, 10.
+ */
+uint8_t bixtogan_labelled(const uint8_t *sheet, size_t sheet_length,
+                          uint8_t *out, size_t out_length, uint64_t *length);
 
 /*
  * The fragments, a record of three bytes each: root, lowest leaf, number of leaves. The records

@@ -89,6 +89,15 @@ static const uint8_t square[] = {
     0,
 };
 
+/* The chain of two with labels: 7, 9 and 11 are constants, the leaves above them holes. */
+static const uint8_t chain_labelled[] = {
+    1, 12,
+    6,  5, 0, 128,  3, 5, 10,  2, 10, 11,  2, 8, 9,  5, 3, 191,  3, 4, 8,  2, 6, 7,  5, 7, 0,
+    2, 3, 5,  2, 3, 4,  5, 6, 64,  3, 2, 8,  5, 8, 127,  5, 9, 63,  6,  3, 2, 8,  2, 0, 2,
+    2, 0, 1,  5, 10, 100,  3, 1, 6,  5, 11, 1,
+    0,
+};
+
 static size_t put(uint8_t *sheet, size_t at, int command, int a, int b)
 {
     sheet[at] = (uint8_t)command;
@@ -163,6 +172,44 @@ static size_t with_nodes(int nodes, const uint8_t *commands, int edges, uint8_t 
     memcpy(sheet + 2, commands, length);
     sheet[2 + length] = 0;
     return 3 + length;
+}
+
+/* The same fragments and edges with labels: 64 for each root. */
+static size_t with_labelled_edges(int edges, uint8_t *sheet)
+{
+    size_t at = with_edges(edges, sheet) - 1;
+    int i;
+
+    for (i = 0; i < 32; i++)
+        at = put(sheet, at, 5, 2 * i, 64);
+    sheet[at++] = 6;
+    sheet[at++] = 0;
+    return at;
+}
+
+/* So many constants, each alone. */
+static size_t with_constants(int nodes, uint8_t *sheet)
+{
+    size_t at = 2;
+    int i;
+
+    sheet[0] = 1;
+    sheet[1] = (uint8_t)nodes;
+    for (i = 0; i < nodes; i++)
+        at = put(sheet, at, 5, i, i % 64);
+    sheet[at++] = 6;
+    sheet[at++] = 0;
+    return at;
+}
+
+/* A constant alone, and 0x06 as often as makes this length. */
+static size_t with_repeated_differing(size_t length, uint8_t *sheet)
+{
+    sheet[0] = 1;
+    sheet[1] = 1;
+    memset(sheet + put(sheet, 2, 5, 0, 7), 6, length - 6);
+    sheet[length - 1] = 0;
+    return length;
 }
 
 /* The calls. */
@@ -529,6 +576,164 @@ static void chain_of_two_grown(void)
            "drawing of the chain of two, a leaf added");
 }
 
+/* What is handed back of a labelled sheet, and 10 by its length. */
+static void handed_back(const uint8_t *sheet, size_t length, const uint8_t *plain,
+                        size_t plain_length, const char *what)
+{
+    lend();
+    expect(bixtogan_labelled(sheet, length, out, plain_length - 1, &value) == BIXTOGAN_SMALL_BUFFER
+               && wrote_nothing(),
+           what);
+    expect(bixtogan_labelled(sheet, length, out, plain_length, &value) == BIXTOGAN_DONE
+               && value == plain_length && wrote(plain, plain_length),
+           what);
+    lend();
+    expect(bixtogan_labelled(sheet, length, out, ROOM, &value) == BIXTOGAN_DONE
+               && value == plain_length && wrote(plain, plain_length),
+           what);
+}
+
+/* A labelled sheet is refused whatever is lent, and nothing is written. */
+static void no_constraint(const uint8_t *sheet, size_t length, int number, const char *what)
+{
+    lend();
+    expect(bixtogan_labelled(sheet, length, out, ROOM, &value) == number
+               && bixtogan_labelled(sheet, length, out, 2, &value) == number
+               && bixtogan_labelled(sheet, length, out, 0, &value) == number && wrote_nothing(),
+           what);
+}
+
+/* A symbol on a node with no child to four: it takes just so many. */
+static void symbols(void)
+{
+    static const struct {
+        int symbol, takes;
+    } borders[] = {{0, 0}, {63, 0}, {64, 1}, {127, 1}, {128, 2}, {191, 2}, {192, 3}, {255, 3}};
+    uint8_t sheet[32], plain[16];
+    size_t i, at;
+    int children, child;
+
+    for (i = 0; i < LENGTH(borders); i++)
+        for (children = 0; children <= 4; children++) {
+            plain[0] = 1;
+            plain[1] = (uint8_t)(children + 1);
+            for (at = 2, child = 1; child <= children; child++)
+                at = put(plain, at, 2, 0, child);
+            plain[at] = 0;
+            memcpy(sheet, plain, at);
+            sheet[put(sheet, at, 5, 0, borders[i].symbol)] = 0;
+            if (children == borders[i].takes)
+                handed_back(sheet, at + 4, plain, at + 1, "as many children as a symbol takes");
+            else
+                no_constraint(sheet, at + 4, BIXTOGAN_LABEL, "more children or fewer");
+        }
+}
+
+static void labelled(void)
+{
+    static const struct {
+        const char *what;
+        size_t length;
+        uint8_t sheet[24];
+        size_t plain_length;
+        uint8_t plain[16];
+    } cases[] = {
+        {"a constant alone", 6, {1, 1, 5, 0, 7, 0}, 3, {1, 1, 0}},
+        {"a constant alone, and 0x06", 7, {1, 1, 6, 5, 0, 7, 0}, 3, {1, 1, 0}},
+        {"a symbol with a constant", 13, {1, 2, 5, 0, 64, 5, 1, 3, 2, 0, 1, 6, 0},
+         6, {1, 2, 2, 0, 1, 0}},
+        {"a symbol with a constant, 0x06 first and twice", 14,
+         {1, 2, 6, 2, 0, 1, 5, 1, 3, 5, 0, 64, 6, 0}, 6, {1, 2, 2, 0, 1, 0}},
+        {"a symbol with a hole", 9, {1, 2, 2, 0, 1, 5, 0, 64, 0}, 6, {1, 2, 2, 0, 1, 0}},
+        {"a hole above a constant", 16, {1, 3, 3, 1, 2, 5, 0, 64, 5, 2, 3, 2, 0, 1, 6, 0},
+         9, {1, 3, 2, 0, 1, 3, 1, 2, 0}},
+        {"a hole above a constant twice", 19,
+         {1, 3, 3, 1, 2, 5, 0, 64, 5, 2, 3, 3, 1, 2, 2, 0, 1, 6, 0},
+         9, {1, 3, 2, 0, 1, 3, 1, 2, 0}},
+    };
+    static const uint8_t one[] = {1, 1, 0};
+    static const uint8_t most[] = {1, 64, 0};
+    uint8_t sheet[BIXTOGAN_SHEET_MAX], plain[BIXTOGAN_TIDY_ROOM];
+    size_t i, length;
+
+    for (i = 0; i < LENGTH(cases); i++)
+        handed_back(cases[i].sheet, cases[i].length, cases[i].plain, cases[i].plain_length,
+                    cases[i].what);
+    handed_back(chain_labelled, sizeof chain_labelled, chain, sizeof chain,
+                "the chain of two with labels");
+    length = with_repeated_differing(BIXTOGAN_SHEET_MAX, sheet);
+    handed_back(sheet, length, one, sizeof one, "2,048 bytes by repeats of 0x06");
+    length = with_constants(64, sheet);
+    handed_back(sheet, length, most, sizeof most, "64 constants alone");
+    length = with_labelled_edges(255, sheet);
+    handed_back(sheet, length, plain, with_edges(255, plain), "255 dominance edges and labels");
+}
+
+/* Labelled sheets that are no normal dominance constraints, and what is told before that. */
+static void labelled_refusals(void)
+{
+    static const struct {
+        const char *what;
+        int number;
+        size_t length;
+        uint8_t sheet[24];
+    } cases[] = {
+        {"a symbol without its child", BIXTOGAN_LABEL, 6, {1, 1, 5, 0, 64, 0}},
+        {"a label twice", BIXTOGAN_LABEL, 16,
+         {1, 2, 5, 0, 64, 5, 1, 3, 2, 0, 1, 6, 5, 0, 64, 0}},
+        {"two symbols for a node", BIXTOGAN_LABEL, 13, {1, 2, 5, 0, 64, 2, 0, 1, 5, 0, 65, 6, 0}},
+        {"a constant twice", BIXTOGAN_LABEL, 9, {1, 1, 5, 0, 7, 5, 0, 7, 0}},
+        {"a child of a constant", BIXTOGAN_LABEL, 9, {1, 2, 5, 0, 7, 2, 0, 1, 0}},
+        {"a child of a node without a label", BIXTOGAN_LABEL, 6, {1, 2, 2, 0, 1, 0}},
+        {"a child of a hole", BIXTOGAN_LABEL, 12, {1, 3, 5, 0, 64, 2, 0, 1, 2, 1, 2, 0}},
+        {"a label twice, and no 0x06", BIXTOGAN_LABEL, 15,
+         {1, 2, 5, 0, 64, 5, 1, 3, 2, 0, 1, 5, 0, 64, 0}},
+        {"a label twice, and a node alone", BIXTOGAN_LABEL, 9, {1, 2, 5, 0, 7, 5, 0, 7, 0}},
+        {"no 0x06", BIXTOGAN_OVERLAP, 12, {1, 2, 5, 0, 64, 5, 1, 3, 2, 0, 1, 0}},
+        {"the same symbol for two nodes, and no 0x06", BIXTOGAN_OVERLAP, 9,
+         {1, 2, 5, 0, 7, 5, 1, 7, 0}},
+        {"no 0x06, and a node alone", BIXTOGAN_OVERLAP, 9, {1, 3, 5, 0, 7, 5, 1, 7, 0}},
+        {"no 0x06, and an edge from a labelled leaf", BIXTOGAN_OVERLAP, 15,
+         {1, 2, 5, 0, 64, 5, 1, 3, 2, 0, 1, 3, 1, 0, 0}},
+        {"a node alone", BIXTOGAN_HOLE, 3, {1, 1, 0}},
+        {"a node alone, and 0x06", BIXTOGAN_HOLE, 4, {1, 1, 6, 0}},
+        {"a node alone beside a constant", BIXTOGAN_HOLE, 6, {1, 2, 5, 1, 7, 0}},
+        {"64 nodes alone", BIXTOGAN_HOLE, 3, {1, 64, 0}},
+        {"an edge from a labelled leaf", BIXTOGAN_HOLE, 16,
+         {1, 2, 5, 0, 64, 5, 1, 3, 2, 0, 1, 6, 3, 1, 0, 0}},
+        {"65 nodes alone", BIXTOGAN_OVERGROWN, 3, {1, 65, 0}},
+        {"an edge from a constant alone", BIXTOGAN_ENDS, 13,
+         {1, 2, 5, 0, 3, 5, 1, 4, 6, 3, 0, 1, 0}},
+        {"an edge from a constant alone to itself, a label twice", BIXTOGAN_ENDS, 12,
+         {1, 1, 5, 0, 3, 5, 0, 3, 3, 0, 0, 0}},
+        {"tree edges in a cycle, a label twice", BIXTOGAN_TREE, 15,
+         {1, 2, 5, 0, 64, 5, 0, 64, 2, 0, 1, 2, 1, 0, 0}},
+        {"a label of no node", BIXTOGAN_RANGE, 6, {1, 1, 5, 1, 7, 0}},
+        {"a label of no node, its symbol missing", BIXTOGAN_MISSING, 4, {1, 1, 5, 1}},
+        {"a label without operands", BIXTOGAN_MISSING, 3, {1, 1, 5}},
+        {"no end after a label", BIXTOGAN_MISSING, 5, {1, 1, 5, 0, 7}},
+        {"no end after 0x06", BIXTOGAN_MISSING, 6, {1, 1, 5, 0, 7, 6}},
+        {"the command 0x04", BIXTOGAN_COMMAND, 8, {1, 1, 5, 0, 7, 4, 0, 0}},
+        {"the command 0x07", BIXTOGAN_COMMAND, 7, {1, 1, 5, 0, 7, 7, 0}},
+        {"the command 0x11 in the first place", BIXTOGAN_COMMAND, 6, {17, 1, 5, 0, 7, 0}},
+        {"the command 0x11 in another", BIXTOGAN_COMMAND, 8, {1, 1, 5, 0, 7, 17, 1, 0}},
+        {"0x01 twice", BIXTOGAN_COMMAND, 8, {1, 1, 5, 0, 7, 1, 1, 0}},
+        {"a label first", BIXTOGAN_COMMAND, 6, {5, 0, 7, 1, 1, 0}},
+        {"0x06 first", BIXTOGAN_COMMAND, 7, {6, 1, 1, 5, 0, 7, 0}},
+        {"a label after the end", BIXTOGAN_COMMAND, 9, {1, 1, 5, 0, 7, 0, 5, 0, 7}},
+    };
+    uint8_t sheet[BIXTOGAN_SHEET_MAX + 1];
+    size_t i;
+
+    for (i = 0; i < LENGTH(cases); i++)
+        no_constraint(cases[i].sheet, cases[i].length, cases[i].number, cases[i].what);
+    no_constraint(sheet, with_constants(65, sheet), BIXTOGAN_OVERGROWN, "65 constants alone");
+    no_constraint(sheet, with_labelled_edges(256, sheet), BIXTOGAN_TOO_MANY,
+                  "256 dominance edges and labels");
+    no_constraint(sheet, with_repeated_differing(BIXTOGAN_SHEET_MAX + 1, sheet), BIXTOGAN_TOO_LONG,
+                  "2,049 bytes by repeats of 0x06");
+}
+
 static void tables(void)
 {
     static const uint8_t records[15] = {0, 1, 2, 3, 4, 2, 6, 7, 1, 8, 9, 1, 10, 11, 1};
@@ -591,8 +796,8 @@ static void placings(void)
            "check of a placing in a small buffer");
 }
 
-/* All functions refuse a sheet that is not well-formed with its number, and write nothing. */
-static void refused_by_all(const uint8_t *sheet, size_t length, int number, const char *what)
+/* The functions for plain sheets refuse one with its number, and write nothing. */
+static void refused_as_plain(const uint8_t *sheet, size_t length, int number, const char *what)
 {
     static const uint8_t lent[BIXTOGAN_NODES_MAX];
     uint64_t place = 5;
@@ -610,6 +815,37 @@ static void refused_by_all(const uint8_t *sheet, size_t length, int number, cons
                && bixtogan_check_placing(sheet, length, lent, sizeof lent, &answer) == number
                && place == 5 && wrote_nothing(),
            what);
+}
+
+/* All functions refuse a sheet that is not well-formed, with or without labels. */
+static void refused_by_all(const uint8_t *sheet, size_t length, int number, const char *what)
+{
+    refused_as_plain(sheet, length, number, what);
+    no_constraint(sheet, length, number, what);
+}
+
+/* Plain sheets have no labels: the commands are unknown, with their operands or without. */
+static void labels_in_plain_sheets(void)
+{
+    static const struct {
+        const char *what;
+        size_t length;
+        uint8_t sheet[16];
+    } cases[] = {
+        {"a label in a plain sheet", 6, {1, 1, 5, 0, 7, 0}},
+        {"a label in a plain sheet, its symbol missing", 4, {1, 1, 5, 0}},
+        {"a label in a plain sheet, its operands missing", 3, {1, 1, 5}},
+        {"a label of no node in a plain sheet", 6, {1, 1, 5, 1, 7, 0}},
+        {"0x06 in a plain sheet", 4, {1, 1, 6, 0}},
+        {"0x06 in a plain sheet, and no end", 3, {1, 1, 6}},
+        {"a label before a tree edge from a node to itself", 9, {1, 2, 5, 0, 7, 2, 0, 0, 0}},
+    };
+    size_t i;
+
+    for (i = 0; i < LENGTH(cases); i++)
+        refused_as_plain(cases[i].sheet, cases[i].length, BIXTOGAN_COMMAND, cases[i].what);
+    refused_as_plain(chain_labelled, sizeof chain_labelled, BIXTOGAN_COMMAND,
+                     "the chain of two with labels as a plain sheet");
 }
 
 static void refusals(void)
@@ -672,9 +908,13 @@ int main(void)
     repeats();
     one_word_fragments();
     chain_of_two_grown();
+    labelled();
+    symbols();
+    labelled_refusals();
     tables();
     cycles();
     placings();
+    labels_in_plain_sheets();
     refusals();
     printf("%d\n", passed);
     return failed != 0;

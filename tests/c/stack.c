@@ -69,7 +69,7 @@ static void end(void)
 }
 
 /* Each fragment above the next, 64 deep, so there is one reading. */
-static void line(int edges)
+static void begin_line(int edges)
 {
     int step, i;
 
@@ -77,6 +77,24 @@ static void line(int edges)
     for (step = 1; edges > 0; step++)
         for (i = 0; i + step < 64 && edges > 0; i++, edges--)
             put(3, 2 * i + 1, 2 * (i + step));
+}
+
+static void line(int edges)
+{
+    begin_line(edges);
+    end();
+}
+
+/* The same with labels, as long as a sheet may be. */
+static void labelled_line(int edges)
+{
+    int i;
+
+    begin_line(edges);
+    for (i = 0; i < 64; i++)
+        put(5, 2 * i, 64);
+    while (last->length < BIXTOGAN_SHEET_MAX - 1)
+        last->bytes[last->length++] = 6;
     end();
 }
 
@@ -181,23 +199,46 @@ static void refusals(const uint8_t *sheet, size_t length, size_t room, int numbe
     expect(bixtogan_check_placing(sheet, length, out, room, &answer) == number, what);
 }
 
+static void plain(const uint8_t *sheet, size_t length)
+{
+    size_t cut = length - 1;
+    int number = bixtogan_labelled(sheet, length, out, ROOM, &value);
+
+    expect(number == BIXTOGAN_LABEL || number == BIXTOGAN_HOLE, "a plain sheet as a labelled one");
+    answers(sheet, length);
+    refusals(sheet, length, 1, BIXTOGAN_SMALL_BUFFER, "a small buffer");
+    refusals(sheet, cut, ROOM, BIXTOGAN_MISSING, "a sheet cut short");
+    expect(bixtogan_count(sheet, cut, &value) == BIXTOGAN_MISSING, "count of a sheet cut short");
+    expect(bixtogan_nodes(sheet, cut, &value) == BIXTOGAN_MISSING, "nodes of a sheet cut short");
+    expect(bixtogan_check_cycle(sheet, cut, out, 4, &answer) == BIXTOGAN_MISSING,
+           "check of a cycle of a sheet cut short");
+}
+
+/* A labelled sheet, and then the plain one that is handed back. */
+static void labelled(const uint8_t *sheet, size_t length)
+{
+    static uint8_t handed_back[BIXTOGAN_TIDY_ROOM];
+
+    refusals(sheet, length, ROOM, BIXTOGAN_COMMAND, "a labelled sheet as a plain one");
+    expect(bixtogan_labelled(sheet, length - 1, out, ROOM, &value) == BIXTOGAN_MISSING,
+           "a labelled sheet cut short");
+    expect(bixtogan_labelled(sheet, length, out, 1, &value) == BIXTOGAN_SMALL_BUFFER,
+           "a labelled sheet and a small buffer");
+    expect(bixtogan_labelled(sheet, length, handed_back, sizeof handed_back, &value)
+               == BIXTOGAN_DONE,
+           "a labelled sheet");
+    plain(handed_back, value);
+}
+
 static void *run(void *unused)
 {
     const struct sheet *sheet;
 
-    for (sheet = sheets; sheet < last; sheet++) {
-        size_t cut = sheet->length - 1;
-
-        answers(sheet->bytes, sheet->length);
-        refusals(sheet->bytes, sheet->length, 1, BIXTOGAN_SMALL_BUFFER, "a small buffer");
-        refusals(sheet->bytes, cut, ROOM, BIXTOGAN_MISSING, "a sheet cut short");
-        expect(bixtogan_count(sheet->bytes, cut, &value) == BIXTOGAN_MISSING,
-               "count of a sheet cut short");
-        expect(bixtogan_nodes(sheet->bytes, cut, &value) == BIXTOGAN_MISSING,
-               "nodes of a sheet cut short");
-        expect(bixtogan_check_cycle(sheet->bytes, cut, out, 4, &answer) == BIXTOGAN_MISSING,
-               "check of a cycle of a sheet cut short");
-    }
+    for (sheet = sheets; sheet < last; sheet++)
+        if (bixtogan_nodes(sheet->bytes, sheet->length, &nodes) == BIXTOGAN_COMMAND)
+            labelled(sheet->bytes, sheet->length);
+        else
+            plain(sheet->bytes, sheet->length);
     return unused;
 }
 
@@ -208,9 +249,10 @@ int main(int argc, char **argv)
     uint8_t *memory, *stack;
     int i, unused = 0;
 
-    for (i = 1; i < argc && i < SHEETS - 5; i++)
+    for (i = 1; i < argc && i < SHEETS - 6; i++)
         read_sheet(argv[i]);
     line(255);
+    labelled_line(255);
     ring(64);
     ring(255);
     square(255);

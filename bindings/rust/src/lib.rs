@@ -7,6 +7,9 @@
 //! A word that stands alone is a node without tree edges. It is read as the root of a fragment, with one leaf added. Added leaves
 //! are numbered after the nodes that the sheet writes, by ascending node; [`nodes`] counts both.
 //!
+//! A *labelled sheet* is a normal dominance constraint, with symbols for its nodes. [`labelled`] alone takes one, and makes a plain
+//! sheet of it for the other calls.
+//!
 //! A *placing* is n bytes, one a node, n being what [`nodes`] answers: the leaf that a root hangs under, or [`TOP`] for a root on
 //! top and for a node that is no root.
 //!
@@ -72,10 +75,16 @@ pub enum Refusal {
     TooLong,
     /// 13: with a leaf added for each node without a tree edge, there are more than 128 nodes.
     Overgrown,
+    /// 14: a node is labelled twice, or has not as many children as its symbol takes.
+    Label,
+    /// 15: two nodes are labelled, and nothing says that they differ.
+    Overlap,
+    /// 16: a dominance edge starts from a labelled leaf, or a node has neither label nor tree edge.
+    Hole,
 }
 
 impl Refusal {
-    const ALL: [Refusal; 11] = [
+    const ALL: [Refusal; 14] = [
         Refusal::Missing,
         Refusal::Command,
         Refusal::Range,
@@ -87,9 +96,12 @@ impl Refusal {
         Refusal::NoSuchReading,
         Refusal::TooLong,
         Refusal::Overgrown,
+        Refusal::Label,
+        Refusal::Overlap,
+        Refusal::Hole,
     ];
 
-    /// Its number, 1 to 4, 6 or 8 to 13.
+    /// Its number, 1 to 4, 6 or 8 to 16.
     ///
     /// ```
     /// assert_eq!(bixtogan::count(&[5]).unwrap_err().number(), 2);
@@ -105,8 +117,9 @@ impl Refusal {
     ///
     /// assert_eq!(Refusal::of_number(12), Some(Refusal::TooLong));
     /// assert_eq!(Refusal::of_number(13), Some(Refusal::Overgrown));
+    /// assert_eq!(Refusal::of_number(16), Some(Refusal::Hole));
     /// let numbers: Vec<u8> = (0..=255).filter(|&number| Refusal::of_number(number).is_some()).collect();
-    /// assert_eq!(numbers, [1, 2, 3, 4, 6, 8, 9, 10, 11, 12, 13]);
+    /// assert_eq!(numbers, [1, 2, 3, 4, 6, 8, 9, 10, 11, 12, 13, 14, 15, 16]);
     /// ```
     pub fn of_number(number: u8) -> Option<Refusal> {
         Refusal::ALL.into_iter().find(|why| why.number() == number)
@@ -321,6 +334,31 @@ pub fn drawing(sheet: &[u8], number: u64, out: &mut [u8]) -> Result<usize, Refus
 /// ```
 pub fn tidy(sheet: &[u8], out: &mut [u8]) -> Result<usize, Refusal> {
     let (number, length) = library::tidy(sheet, out);
+    answered(number, length as usize)
+}
+
+/// Writes the plain sheet of a labelled one, tidy; its length.
+///
+/// A labelled sheet has two commands more, anywhere after the first. 5, a node and a symbol label the node: symbols 0 to 63 take no
+/// child, 64 to 127 one, 128 to 191 two, 192 to 255 three. 6 says that all labelled nodes differ; it is needed where there are two,
+/// and may be repeated. A node has one label at most, and without one no child. Dominance edges start from leaves that have a parent
+/// and no label.
+///
+/// ```
+/// use bixtogan::{count, labelled, Refusal};
+///
+/// // Node 0 has the symbol 64 and the child 1, which has the symbol 3.
+/// let sheet = [1, 2, 5, 0, 64, 2, 0, 1, 5, 1, 3, 6, 0];
+/// let mut out = [0; 6];
+/// assert_eq!(labelled(&sheet, &mut out), Ok(6));
+/// assert_eq!(out, [1, 2, 2, 0, 1, 0]);
+/// // The other calls know no labels.
+/// assert_eq!(count(&sheet), Err(Refusal::Command));
+/// // The symbol 64 takes a child.
+/// assert_eq!(labelled(&[1, 1, 5, 0, 64, 0], &mut out), Err(Refusal::Label));
+/// ```
+pub fn labelled(sheet: &[u8], out: &mut [u8]) -> Result<usize, Refusal> {
+    let (number, length) = library::labelled(sheet, out);
     answered(number, length as usize)
 }
 

@@ -56,6 +56,13 @@ pub fn tidy(sheet: &[u8], out: &mut [u8]) -> (u8, u64) {
     (number, length)
 }
 
+pub fn labelled(sheet: &[u8], out: &mut [u8]) -> (u8, u64) {
+    let mut length = 0;
+    let number =
+        unsafe { foreign::bixtogan_labelled(sheet.as_ptr(), sheet.len(), out.as_mut_ptr(), out.len(), &mut length) };
+    (number, length)
+}
+
 pub fn fragments(sheet: &[u8], table: &mut [Fragment]) -> (u8, u64) {
     let mut records = 0;
     // A record is three bytes with no gap, and every byte is a record's field.
