@@ -1,9 +1,12 @@
-//! The text form of a sheet: a line a command, `nodes 12`, `tree 0 1`, `dom 1 6`; `#` begins a comment.
+//! The text form of a sheet: a line a command, `nodes 12`, `tree 0 1`, `dom 1 6`, in labelled sheets `label 0 128` and `differ`
+//! besides; `#` begins a comment.
 
 const END: u8 = 0;
 const NODES: u8 = 1;
 const TREE: u8 = 2;
 const DOMINANCE: u8 = 3;
+const LABEL: u8 = 5;
+const DIFFER: u8 = 6;
 
 /// A sheet's commands, as far as they can be read.
 #[derive(Default)]
@@ -13,6 +16,8 @@ pub struct Commands {
     pub tree: Vec<(u8, u8)>,
     /// Each of them once.
     pub dominance: Vec<(u8, u8)>,
+    /// Whether there are commands that only a labelled sheet has.
+    pub labelled: bool,
     /// All commands, in order.
     pub lines: Vec<String>,
 }
@@ -40,6 +45,16 @@ pub fn commands(sheet: &[u8]) -> Commands {
                 read.lines.push(format!("dom {leaf} {root}"));
                 rest
             }
+            [LABEL, node, symbol, ref rest @ ..] => {
+                read.labelled = true;
+                read.lines.push(format!("label {node} {symbol}"));
+                rest
+            }
+            [DIFFER, ref rest @ ..] => {
+                read.labelled = true;
+                read.lines.push("differ".to_string());
+                rest
+            }
             _ => return read,
         }
     }
@@ -52,7 +67,8 @@ pub fn encode(text: &str) -> Result<Vec<u8>, String> {
         let words: Vec<&str> = line.split('#').next().unwrap_or("").split_whitespace().collect();
         let bytes = command(&words).ok_or_else(|| {
             format!(
-                "line {}: wanted `nodes N`, `tree PARENT CHILD` or `dom LEAF ROOT`, with numbers up to 255",
+                "line {}: wanted `nodes N`, `tree PARENT CHILD`, `dom LEAF ROOT`, `label NODE SYMBOL` or `differ`, \
+                 with numbers up to 255",
                 number + 1
             )
         })?;
@@ -69,6 +85,8 @@ fn command(words: &[&str]) -> Option<Vec<u8>> {
         ["nodes", n] => Some(vec![NODES, byte(n)?]),
         ["tree", parent, child] => Some(vec![TREE, byte(parent)?, byte(child)?]),
         ["dom", leaf, root] => Some(vec![DOMINANCE, byte(leaf)?, byte(root)?]),
+        ["label", node, symbol] => Some(vec![LABEL, byte(node)?, byte(symbol)?]),
+        ["differ"] => Some(vec![DIFFER]),
         _ => None,
     }
 }
@@ -103,14 +121,28 @@ mod tests {
     }
 
     #[test]
+    fn labels_have_lines() {
+        let text = "nodes 2\nlabel 0 64\ntree 0 1\ndiffer\nlabel 1 255\ndiffer\n";
+        let sheet = [1, 2, 5, 0, 64, 2, 0, 1, 6, 5, 1, 255, 6, 0];
+        assert_eq!(encode(text), Ok(sheet.to_vec()));
+        let read = commands(&sheet);
+        assert!(read.lines.iter().map(String::as_str).eq(text.lines()) && read.labelled);
+        assert_eq!((read.nodes, read.tree), (2, vec![(0, 1)]));
+        assert!(!commands(&[1, 2, 2, 0, 1, 0]).labelled);
+    }
+
+    #[test]
     fn a_wrong_line_is_named() {
         assert!(encode("nodes 4\ntree 0\n").unwrap_err().starts_with("line 2:"));
-        assert!(encode("nodes 256\n").is_err());
+        for line in ["nodes 256", "label 0", "label 0 256", "differ 0"] {
+            assert!(encode(line).is_err(), "{line}");
+        }
     }
 
     #[test]
     fn a_cut_sheet_shows_what_can_be_read() {
         assert_eq!(commands(&[1, 4, 2, 0, 1, 2, 2]).lines, ["nodes 4", "tree 0 1"]);
+        assert_eq!(commands(&[1, 4, 6, 5, 0]).lines, ["nodes 4", "differ"]);
         assert!(commands(&[5]).lines.is_empty());
     }
 }

@@ -17,13 +17,14 @@ usage: bixtogan WORD < SHEET
   reading K           reading K: root:leaf for each root that hangs under a leaf
   configuration       a configuration, in the same way
   draw K              reading K, drawn in one line
-  tidy                the sheet's text, tidy
+  tidy                the sheet's text, tidy; the sheet itself with `tidy --bytes`
+  labelled            the text of the plain sheet that a labelled one means, tidy; the sheet itself with `labelled --bytes`
   fragments           root, lowest leaf and number of leaves of each fragment
   check-placing FILE  whether FILE's root:leaf pairs are a solved form, a configuration, a reading
   check-cycle FILE    whether FILE's numbers, node and kind of edge in turn, are a simple hypernormal cycle
   dot                 a Graphviz picture of the sheet, its cycle marked where it has no reading
   dot K               a Graphviz picture of reading K
-  decode              the sheet's text: lines `nodes 12`, `tree 0 1`, `dom 1 6`
+  decode              the sheet's text: lines `nodes 12`, `tree 0 1`, `dom 1 6`, `label 0 128`, `differ`
   encode              the sheet of a text (the text on standard input)
 ";
 
@@ -36,6 +37,9 @@ fn answer(words: &[&str]) -> Answer {
         ["configuration"] => words::configuration(&sheet()?),
         ["draw", k] => words::draw(number(k)?, &sheet()?),
         ["tidy"] => words::tidy(&sheet()?),
+        ["tidy", "--bytes"] => words::tidy_bytes(&sheet()?),
+        ["labelled"] => words::labelled(&sheet()?),
+        ["labelled", "--bytes"] => words::labelled_bytes(&sheet()?),
         ["fragments"] => words::fragments(&sheet()?),
         ["check-placing", name] => words::check_placing(&file(name)?, &sheet()?),
         ["check-cycle", name] => words::check_cycle(&file(name)?, &sheet()?),

@@ -129,10 +129,30 @@ pub fn draw(k: u64, sheet: &[u8]) -> Answer {
     Ok(out)
 }
 
-pub fn tidy(sheet: &[u8]) -> Answer {
+/// A sheet that is handed back: it is never longer than the one handed in.
+type HandsBack = fn(&[u8], &mut [u8]) -> Result<usize, Refusal>;
+
+fn handed_back(call: HandsBack, sheet: &[u8]) -> Result<Vec<u8>, Refusal> {
     let mut out = vec![0; sheet.len()];
-    let length = bixtogan::tidy(sheet, &mut out)?;
-    Ok(lines(&out[..length]))
+    let length = call(sheet, &mut out)?;
+    out.truncate(length);
+    Ok(out)
+}
+
+pub fn tidy(sheet: &[u8]) -> Answer {
+    Ok(lines(&tidy_bytes(sheet)?))
+}
+
+pub fn tidy_bytes(sheet: &[u8]) -> Answer {
+    Ok(handed_back(bixtogan::tidy, sheet)?)
+}
+
+pub fn labelled(sheet: &[u8]) -> Answer {
+    Ok(lines(&labelled_bytes(sheet)?))
+}
+
+pub fn labelled_bytes(sheet: &[u8]) -> Answer {
+    Ok(handed_back(bixtogan::labelled, sheet)?)
 }
 
 fn table(sheet: &[u8]) -> Result<Vec<Fragment>, Refusal> {
@@ -211,11 +231,20 @@ fn lines(sheet: &[u8]) -> Vec<u8> {
     form::commands(sheet).lines.iter().flat_map(|line| [line.as_bytes(), b"\n"].concat()).collect()
 }
 
+/// Whether the sheet is well-formed: as a labelled one where it has their commands.
+fn judged(sheet: &[u8]) -> Result<(), Refusal> {
+    if form::commands(sheet).labelled {
+        handed_back(bixtogan::labelled, sheet).map(|_| ())
+    } else {
+        bixtogan::nodes(sheet).map(|_| ())
+    }
+}
+
 /// What can be read of the sheet, and the refusal after it where it is not well-formed.
 pub fn decode(sheet: &[u8]) -> Answer {
     let text = lines(sheet);
-    match bixtogan::nodes(sheet) {
-        Ok(_) => Ok(text),
+    match judged(sheet) {
+        Ok(()) => Ok(text),
         Err(why) => Err(Failure::Refused([text, format!("# {why}\n").into_bytes()].concat())),
     }
 }

@@ -144,7 +144,16 @@ fn placings_are_checked() {
 
 #[test]
 fn text_and_bytes() {
-    for name in ["chain-of-two", "every-linguist", "fork", "loop", "one-fragment", "one-word-fragments", "square"] {
+    for name in [
+        "chain-of-two",
+        "every-linguist",
+        "every-linguist-labelled",
+        "fork",
+        "loop",
+        "one-fragment",
+        "one-word-fragments",
+        "square",
+    ] {
         let sheet = sample(&format!("{name}.sheet"));
         let (text, status) = run(&["decode"], &sheet);
         assert_eq!(status, 0);
@@ -157,6 +166,8 @@ fn text_and_bytes() {
 fn tidy_is_by_child_and_by_leaf() {
     let untidy = [1, 4, 3, 3, 0, 2, 2, 3, 2, 0, 1, 0];
     assert_eq!(run(&["tidy"], &untidy), done("nodes 4\ntree 0 1\ntree 2 3\ndom 3 0\n"));
+    assert_eq!(bytes(&["tidy", "--bytes"], &untidy), (vec![1, 4, 2, 0, 1, 2, 2, 3, 3, 3, 0, 0], 0));
+    assert_eq!(bytes(&["tidy", "--bytes"], &[1, 1]), (b"refused 1\n".to_vec(), 1));
 }
 
 /// Two fragments of two nodes, and the dominance edge from 1 to 2 so many times.
@@ -265,6 +276,66 @@ fn sheets_that_grow_too_large() {
     assert_eq!(run(&["list"], &[1, 67, 2, 0, 1, 2, 1, 0, 0]), refused("refused 4\n"));
 }
 
+// 02, Three.
+#[test]
+fn labelled_sheets() {
+    for (sheet, text) in [
+        (&[1, 1, 5, 0, 7, 0][..], "nodes 1\n"),
+        (&[1, 2, 5, 0, 64, 5, 1, 3, 2, 0, 1, 6, 0], "nodes 2\ntree 0 1\n"),
+        // A hole, and a dominance edge from it, twice; 6 is repeated as well.
+        (&[1, 3, 6, 3, 1, 2, 2, 0, 1, 5, 2, 63, 3, 1, 2, 5, 0, 127, 6, 0], "nodes 3\ntree 0 1\ndom 1 2\n"),
+    ] {
+        assert_eq!(run(&["labelled"], sheet), done(text));
+    }
+    for (sheet, text) in [
+        (&[1, 1, 0][..], "refused 16\n"),
+        (&[1, 1, 5, 0, 64, 0], "refused 14\n"),
+        (&[1, 2, 5, 0, 64, 5, 1, 3, 2, 0, 1, 0], "refused 15\n"),
+        (&[1, 2, 5, 0, 64, 5, 0, 64, 2, 0, 1, 6, 0], "refused 14\n"),
+        (&[1, 2, 2, 0, 1, 0], "refused 14\n"),
+        (&[1, 2, 5, 0, 3, 5, 1, 4, 6, 3, 0, 1, 0], "refused 6\n"),
+        (&[1, 65, 0], "refused 13\n"),
+        (&[1, 64, 0], "refused 16\n"),
+        (&[1, 1, 5, 1, 7, 0], "refused 3\n"),
+        (&[1, 1, 5, 0, 7, 4, 0, 0], "refused 2\n"),
+        (&[17, 1, 5, 0, 7, 0], "refused 2\n"),
+        (&[1, 1, 5, 0], "refused 1\n"),
+    ] {
+        assert_eq!(run(&["labelled"], sheet), refused(text), "{sheet:?}");
+    }
+}
+
+#[test]
+fn every_linguist_with_labels() {
+    let (labelled, status) = bytes(&["encode"], &sample("every-linguist-labelled.txt"));
+    assert_eq!(status, 0);
+    let (text, status) = run(&["labelled"], &labelled);
+    assert_eq!(status, 0);
+    assert_eq!(bytes(&["encode"], text.as_bytes()), (sample("every-linguist.sheet"), 0));
+    assert_eq!(bytes(&["labelled", "--bytes"], &labelled), (sample("every-linguist.sheet"), 0));
+    for words in [&["list"][..], &["count"], &["nodes"], &["reading", "1"], &["configuration"], &["draw", "1"]] {
+        assert_eq!(run(words, &labelled), refused("refused 2\n"), "{words:?}");
+    }
+    for words in [&["tidy"][..], &["fragments"], &["dot"], &["dot", "1"]] {
+        assert_eq!(run(words, &labelled), refused("refused 2\n"), "{words:?}");
+    }
+}
+
+#[test]
+fn labels_as_text() {
+    let text = "nodes 2\ndiffer\nlabel 0 64\ntree 0 1\nlabel 1 255\n";
+    let sheet = [1, 2, 6, 5, 0, 64, 2, 0, 1, 5, 1, 255, 0];
+    assert_eq!(bytes(&["encode"], text.as_bytes()), (sheet.to_vec(), 0));
+    // 255 takes three children, and the words of plain sheets know no labels.
+    assert_eq!(run(&["decode"], &sheet), refused(&format!("{text}# refused 14\n")));
+    assert_eq!(run(&["tidy"], &sheet), refused("refused 2\n"));
+    assert_eq!(run(&["decode"], &[1, 1, 5, 0, 7]), refused("nodes 1\nlabel 0 7\n# refused 1\n"));
+    assert_eq!(run(&["decode"], &[1, 1, 5, 0, 7, 0]), done("nodes 1\nlabel 0 7\n"));
+    for line in ["label 0", "label 0 256", "label 0 1 2", "differ 1", "label zero 1"] {
+        assert_eq!(run(&["encode"], format!("nodes 1\n{line}\n").as_bytes()), (String::new(), 2), "{line}");
+    }
+}
+
 #[test]
 fn sheets_that_are_too_long() {
     assert_eq!(run(&["count"], &[0; 2048]), refused("refused 2\n"));
@@ -272,6 +343,9 @@ fn sheets_that_are_too_long() {
     assert_eq!(run(&["list"], &[0; 5000]), refused("refused 12\n"));
     let (text, status) = run(&["decode"], &repeating(680));
     assert_eq!((text.lines().last(), status), (Some("# refused 12"), 1));
+    let differing = |times: usize| [&[1, 1, 5, 0, 7], &vec![6; times][..], &[0]].concat();
+    assert_eq!(run(&["labelled"], &differing(2042)), done("nodes 1\n"));
+    assert_eq!(run(&["labelled"], &differing(2043)), refused("refused 12\n"));
 }
 
 /// The program answers, and is gone before it was given all of this.
@@ -279,6 +353,7 @@ fn sheets_that_are_too_long() {
 fn inputs_without_end() {
     for (words, answer) in [
         (&["list"][..], (b"refused 12\n".to_vec(), 1)),
+        (&["labelled"], (b"refused 12\n".to_vec(), 1)),
         (&["decode"], (b"# refused 12\n".to_vec(), 1)),
         (&["encode"], (Vec::new(), 2)),
         (&["check-cycle", "/dev/zero"], (Vec::new(), 2)),
@@ -309,7 +384,8 @@ fn refusals() {
 
 #[test]
 fn anything_else_shows_the_usage() {
-    for words in [&[] as &[&str], &["readings"], &["reading"], &["reading", "one"], &["list", "2"]] {
+    for words in [&[] as &[&str], &["readings"], &["reading"], &["reading", "one"], &["list", "2"], &["labelled", "2"]]
+    {
         assert_eq!(run(words, &[]), (String::new(), 2));
     }
     assert_eq!(run(&["encode"], b"nodes\n"), (String::new(), 2));
