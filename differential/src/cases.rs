@@ -1,11 +1,12 @@
 //! The cases of documents 01 and 02, the counts of Section 9, and the ways of this crate against each other.
 use crate::graph::{Edge, Graph};
+use crate::labelling::random_labelled;
 use crate::listing::{all, first, Leave};
 use crate::placing::{check, Answers, TOP};
 use crate::random::Random;
-use crate::sheet::{read, table, tidy, write, written};
-use crate::sheets::{bared, chain, near_overgrown, random_fork, random_graph, side_by_side, untidy};
-use crate::{brute, cycle, drawing, fragments, hypernormal, rule1};
+use crate::sheet::{read, table, tidy, write, written, DOMINANCE, TREE};
+use crate::sheets::{bared, chain, near_overgrown, random_fork, random_graph, side_by_side, untidy, WIDE};
+use crate::{brute, cycle, drawing, fragments, hypernormal, labelled, rule1};
 
 fn graph(nodes: usize, tree: &[Edge], dominance: &[Edge]) -> Graph {
     read(&write(nodes, tree, dominance)).unwrap()
@@ -207,7 +208,7 @@ fn some_grow_too_large() {
     let mut random = Random::new(8);
     let mut seen = [0, 0];
     for _ in 0..200 {
-        let graph = near_overgrown(&mut random);
+        let graph = near_overgrown(&mut random, &WIDE);
         let grown = graph.nodes() + graph.bare_nodes().len();
         assert!(graph.nodes() <= 128 && (126..=132).contains(&grown));
         let refused = read(&tidy(&graph)).map(|grown| grown.nodes());
@@ -215,6 +216,84 @@ fn some_grow_too_large() {
         seen[usize::from(grown > 128)] += 1;
     }
     assert!(seen[0] > 50 && seen[1] > 50, "{seen:?}");
+}
+
+/// The labelled sheet with these commands after the first, as it is handed back.
+fn handed_back(nodes: u8, commands: &[&[u8]]) -> Result<Vec<u8>, u8> {
+    labelled::written(&[&[1, nodes], &commands.concat()[..], &[0]].concat()).map(|graph| tidy(&graph))
+}
+
+/// Document 02, Three.
+#[test]
+fn labelled_sheets() {
+    let [over, under, edge]: [&[u8]; 3] = [&[5, 0, 64], &[5, 1, 3], &[2, 0, 1]];
+    assert_eq!(handed_back(1, &[&[5, 0, 7]]), Ok(vec![1, 1, 0]));
+    assert_eq!(handed_back(2, &[over, under, edge, &[6]]), Ok(vec![1, 2, 2, 0, 1, 0]));
+    assert_eq!(handed_back(2, &[&[6], edge, over, &[6]]), Ok(vec![1, 2, 2, 0, 1, 0]));
+    assert_eq!(handed_back(2, &[over, edge]), Ok(vec![1, 2, 2, 0, 1, 0]));
+    assert_eq!(handed_back(1, &[]), Err(16));
+    assert_eq!(handed_back(1, &[over]), Err(14));
+    assert_eq!(handed_back(2, &[over, under, edge]), Err(15));
+    assert_eq!(handed_back(2, &[over, over, under, edge, &[6]]), Err(14));
+    assert_eq!(handed_back(2, &[edge]), Err(14));
+    assert_eq!(handed_back(2, &[&[5, 0, 3], &[5, 1, 4], &[6], &[3, 0, 1]]), Err(6));
+    assert_eq!(handed_back(64, &[]), Err(16));
+    assert_eq!(handed_back(65, &[]), Err(13));
+    assert_eq!(handed_back(2, &[&[5, 2, 7]]), Err(3));
+    for command in [0, 1, 4, 7, 17, 255] {
+        assert_eq!(handed_back(2, &[&[command]]), Err(2));
+    }
+    assert_eq!(handed_back(1, &[&[5, 0, 7], &[6; 2042]]), Ok(vec![1, 1, 0]));
+    assert_eq!(handed_back(1, &[&[5, 0, 7], &[6; 2043]]), Err(12));
+}
+
+#[test]
+fn refusals_of_labels_come_in_order() {
+    assert_eq!(labelled::written(&[5, 0, 7, 0]), Err(2));
+    assert_eq!(labelled::written(&[6]), Err(2));
+    assert_eq!(labelled::written(&[1, 2, 5]), Err(1));
+    assert_eq!(labelled::written(&[1, 2, 5, 9]), Err(1));
+    assert_eq!(labelled::written(&[1, 2, 5, 9, 9]), Err(3));
+    assert_eq!(labelled::written(&[1, 2, 6]), Err(1));
+    // No label fits, no two nodes differ, and there is an edge from a labelled leaf: each goes, and the next is told.
+    let [edge, label, other, downward]: [&[u8]; 4] = [&[2, 0, 1], &[5, 1, 9], &[5, 2, 9], &[3, 1, 2]];
+    assert_eq!(handed_back(3, &[edge, label, other, downward]), Err(14));
+    assert_eq!(handed_back(3, &[edge, label, other, downward, &[5, 0, 64]]), Err(15));
+    assert_eq!(handed_back(3, &[edge, label, other, downward, &[5, 0, 64], &[6]]), Err(16));
+    assert_eq!(handed_back(3, &[edge, label, other, &[5, 0, 64], &[6]]), Ok(vec![1, 3, 2, 0, 1, 0]));
+    assert_eq!(handed_back(3, &[edge, other, downward, &[5, 0, 64], &[6]]), Ok(vec![1, 3, 2, 0, 1, 3, 1, 2, 0]));
+}
+
+/// "Symbols 0 to 63 take no children, 64 to 127 one, 128 to 191 two, 192 to 255 three."
+#[test]
+fn symbols_take_children() {
+    for symbol in 0..=255 {
+        let takes = [0..=63, 64..=127, 128..=191, 192..=255].iter().position(|range| range.contains(&symbol));
+        for children in 0..=4 {
+            let edges: Vec<u8> = (1..=children).flat_map(|child| [2, 0, child]).collect();
+            let given = handed_back(children + 1, &[&edges, &[5, 0, symbol]]);
+            assert_eq!(given.is_ok(), takes == Some(children.into()), "{symbol}, {children}");
+            assert!(given.is_ok() || given == Err(14));
+        }
+    }
+}
+
+/// Labels change nothing of the graph, no plain sheet has any, and no labelled sheet is without.
+#[test]
+fn labels_taken_out() {
+    let mut random = Random::new(9);
+    let mut seen = [0, 0];
+    for _ in 0..400 {
+        let mut sheet = random_labelled(&mut random);
+        let bytes = sheet.bytes();
+        sheet.commands.retain(|command| [TREE, DOMINANCE].contains(&command[0]));
+        let plain = sheet.bytes();
+        assert_eq!(labelled::written(&bytes), written(&plain));
+        assert_eq!(written(&bytes), Err(2));
+        assert!(labelled::written(&plain).is_err());
+        seen[usize::from(written(&plain).is_err())] += 1;
+    }
+    assert!(seen[0] > 300 && seen[1] > 5, "{seen:?}");
 }
 
 #[test]

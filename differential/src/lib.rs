@@ -10,6 +10,8 @@ pub mod drawing;
 pub mod fragments;
 pub mod graph;
 pub mod hypernormal;
+pub mod labelled;
+pub mod labelling;
 pub mod listing;
 pub mod placing;
 pub mod random;
@@ -20,7 +22,7 @@ pub mod sheets;
 #[cfg(test)]
 mod cases;
 
-/// A refusal's number, 1 to 4, 6 or 8 to 13.
+/// A refusal's number, 1 to 4, 6 or 8 to 16.
 pub type Refused = u8;
 
 /// The last number that a reading is asked for by, and the largest exact count.

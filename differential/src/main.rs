@@ -1,6 +1,7 @@
 //! Holds every call of the library against this package's own implementation of documents 01 and 02, on random sheets.
 mod harness;
 
+use differential::labelling::random_labelled;
 use differential::random::Random;
 use harness::difference::unhex;
 use harness::{deep, Difference, Tally};
@@ -9,7 +10,7 @@ use std::process::ExitCode;
 const USAGE: &str = "\
 usage: differential [--seed N] [--sheets N] [--first N] [--bytes HEX]
   --seed N    the seed that fixes the sheets (default 1)
-  --sheets N  how many random sheets (default 2500), each with damaged forms of it
+  --sheets N  how many random sheets of either kind (default 2500), each with damaged forms of it
   --first N   the number of the first one (default 0)
   --bytes HEX this sheet alone
 ";
@@ -56,6 +57,9 @@ fn run(options: &Options) -> Result<Tally, Difference> {
         let bytes = harness::random_sheet(&mut random, index);
         tally += harness::try_any(&mut random, &bytes)?;
         tally += harness::try_damaged(&mut random, &bytes, DAMAGED)?;
+        let labelled = random_labelled(&mut random);
+        tally += harness::try_any(&mut random, &labelled.bytes())?;
+        tally += harness::try_mislabelled(&mut random, &labelled, DAMAGED)?;
     }
     let mut random = random_of(options.seed, u64::MAX);
     for bytes in deep::sheets(&mut random) {
@@ -71,11 +75,11 @@ fn main() -> ExitCode {
         return ExitCode::from(2);
     };
     match run(&options) {
-        Ok(Tally { sheets, refused, overgrown, grown, unsolvable, calls }) => {
+        Ok(Tally { sheets, refused, overgrown, grown, unsolvable, labelled, calls }) => {
             let seed = options.seed;
             println!(
                 "seed {seed}: {calls} calls on {sheets} sheets ({refused} not well-formed, {overgrown} of them overgrown; \
-                 {grown} grown; {unsolvable} without a reading) compared, no difference"
+                 {grown} grown; {unsolvable} without a reading; {labelled} labelled ones accepted) compared, no difference"
             );
             ExitCode::SUCCESS
         }

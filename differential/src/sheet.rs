@@ -14,13 +14,13 @@ const MOST_DOMINANCE: usize = 255;
 pub const LONGEST: usize = 2048;
 
 /// What is known after some commands.
-struct Commands {
+pub(crate) struct Commands {
     parent: Vec<Option<Node>>,
     dominance: BTreeSet<Edge>,
 }
 
 /// The next byte, or 1.
-fn byte(rest: &mut &[u8]) -> Result<u8, Refused> {
+pub(crate) fn byte(rest: &mut &[u8]) -> Result<u8, Refused> {
     let (&first, after) = rest.split_first().ok_or(1)?;
     *rest = after;
     Ok(first)
@@ -67,7 +67,7 @@ impl Commands {
     }
 
     /// The tests of the whole, in the documents' order: a node without tree edges is no leaf, since it grows one.
-    fn graph(self) -> Result<Graph, Refused> {
+    pub(crate) fn graph(self) -> Result<Graph, Refused> {
         if (0..self.parent.len()).any(|node| self.rises_forever(node)) {
             return Err(4);
         }
@@ -88,8 +88,17 @@ pub fn read(bytes: &[u8]) -> Result<Graph, Refused> {
     written(bytes).map(Graph::grown)
 }
 
-/// The graph as a well-formed sheet writes it; else its refusal, 12 before the others.
+/// The graph as a well-formed sheet writes it; else its refusal.
 pub fn written(bytes: &[u8]) -> Result<Graph, Refused> {
+    commands(bytes, |_, _, _| Err(2))?.graph()
+}
+
+/// What the commands come to, or the refusal of one of them; 12 before the others. A command byte that has no place here goes to
+/// `other`, with the number of nodes and the bytes after it.
+pub(crate) fn commands(
+    bytes: &[u8],
+    mut other: impl FnMut(u8, usize, &mut &[u8]) -> Result<(), Refused>,
+) -> Result<Commands, Refused> {
     if bytes.len() > LONGEST {
         return Err(12);
     }
@@ -104,7 +113,7 @@ pub fn written(bytes: &[u8]) -> Result<Graph, Refused> {
     let mut commands = Commands { parent: vec![None; nodes], dominance: BTreeSet::new() };
     loop {
         match byte(&mut rest)? {
-            END if rest.is_empty() => return commands.graph(),
+            END if rest.is_empty() => return Ok(commands),
             TREE => {
                 let edge = commands.edge(&mut rest)?;
                 commands.add_tree(edge)?;
@@ -113,7 +122,7 @@ pub fn written(bytes: &[u8]) -> Result<Graph, Refused> {
                 let edge = commands.edge(&mut rest)?;
                 commands.add_dominance(edge)?;
             }
-            _ => return Err(2),
+            command => other(command, nodes, &mut rest)?,
         }
     }
 }

@@ -75,11 +75,11 @@ pub fn bared(random: &mut Random, graph: &Graph) -> Graph {
 }
 
 /// A written graph with so many bare nodes that it grows to about as many nodes as a sheet may have, or a few more.
-pub fn near_overgrown(random: &mut Random) -> Graph {
+pub fn near_overgrown(random: &mut Random, trees: &[Trees]) -> Graph {
     let mut graph = Graph { parent: Vec::new(), dominance: Vec::new() };
     if !random.once_in(4) {
         let most_nodes = random.pick(&[9, 40, 120]);
-        let other = random_graph(random, most_nodes);
+        let other = graph_of(random, most_nodes, trees);
         graph = bared(random, &other);
     }
     let wanted = random.between(NODES - 2, NODES + 3);
@@ -118,8 +118,13 @@ pub enum Trees {
     Flat,
     /// Long paths with few side branches.
     Tall,
+    /// No node has more than three children, so that there are symbols for all.
+    Narrow,
     Any,
 }
+
+/// The kinds of trees whose nodes may have any number of children.
+pub const WIDE: [Trees; 4] = [Trees::Flat, Trees::Tall, Trees::Any, Trees::Any];
 
 /// Trees without dominance edges, each of two nodes or more.
 pub fn forest(random: &mut Random, nodes: usize, fragments: usize, trees: Trees) -> Graph {
@@ -135,6 +140,11 @@ pub fn forest(random: &mut Random, nodes: usize, fragments: usize, trees: Trees)
             let above = match trees {
                 Trees::Flat => root,
                 Trees::Tall if !random.once_in(5) => node - 1,
+                Trees::Narrow => {
+                    let children = |above: Node| parent.iter().filter(|&&parent| parent == Some(above)).count();
+                    let open: Vec<Node> = (root..node).filter(|&above| children(above) < 3).collect();
+                    random.pick(&open)
+                }
                 _ => random.between(root, node - 1),
             };
             parent.push(Some(above));
@@ -235,6 +245,11 @@ fn dominance(random: &mut Random, graph: &Graph, edges: Edges, wanted: usize) ->
 
 /// A random graph with so many nodes at most, and two at least.
 pub fn random_graph(random: &mut Random, most_nodes: usize) -> Graph {
+    graph_of(random, most_nodes, &WIDE)
+}
+
+/// The same, its trees of one of these kinds.
+pub fn graph_of(random: &mut Random, most_nodes: usize, trees: &[Trees]) -> Graph {
     let nodes = if random.once_in(8) { most_nodes.min(NODES) } else { random.between(2, most_nodes.min(NODES)) };
     let most_fragments = nodes / 2;
     let fragments = match random.below(3) {
@@ -242,7 +257,7 @@ pub fn random_graph(random: &mut Random, most_nodes: usize) -> Graph {
         1 => random.between(most_fragments.div_ceil(2), most_fragments),
         _ => random.between(1, most_fragments),
     };
-    let trees = random.pick(&[Trees::Flat, Trees::Tall, Trees::Any, Trees::Any]);
+    let trees = random.pick(trees);
     let mut graph = forest(random, nodes, fragments, trees);
     let more = random.between(1, 2);
     let edges = random.pick(&[Edges::Any, Edges::Hidden(0), Edges::Hidden(0), Edges::Hidden(more), Edges::Joining]);
@@ -257,9 +272,14 @@ pub fn random_graph(random: &mut Random, most_nodes: usize) -> Graph {
 
 /// A graph with as many dominance edges as a sheet may have.
 pub fn crowded_graph(random: &mut Random) -> Graph {
+    crowded_graph_of(random, Trees::Any)
+}
+
+/// The same with these trees.
+pub fn crowded_graph_of(random: &mut Random, trees: Trees) -> Graph {
     let nodes = random.between(64, NODES);
     let fragments = random.between(nodes / 3, nodes / 2);
-    let mut graph = forest(random, nodes, fragments, Trees::Any);
+    let mut graph = forest(random, nodes, fragments, trees);
     let edges = random.pick(&[Edges::Any, Edges::Branch]);
     graph.dominance = dominance(random, &graph, edges, MOST_DOMINANCE);
     shuffled(random, &graph)

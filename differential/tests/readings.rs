@@ -1,5 +1,5 @@
 //! The program `readings` from its input to what it writes, held against the second implementation: document 01's "The printed
-//! list", with what document 02 says of repeats and of long inputs (One) and of nodes without tree edges (Two).
+//! list", with what document 02 says of repeats and of long inputs (One), of nodes without tree edges (Two) and of labels (Three).
 //! `rt check readings` makes the program.
 use differential::listing::{self, Leave};
 use differential::placing::hung;
@@ -130,6 +130,14 @@ fn one_word_fragments() {
     agree(&sheet::write(67, &[(0, 1), (1, 0)], &[]), "refused 4\n");
     // The added leaf cannot be named.
     agree(&sheet::write(2, &[], &[(2, 1)]), "refused 3\n");
+}
+
+/// Those have a call of their own.
+#[test]
+fn labelled_sheets() {
+    agree(&[1, 1, 5, 0, 7, 0], "refused 2\n");
+    agree(&[1, 1, 5], "refused 2\n");
+    agree(&[1, 1, 6, 0], "refused 2\n");
 }
 
 #[test]

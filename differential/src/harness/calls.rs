@@ -18,6 +18,9 @@ pub struct Caller<'a> {
 
 pub type Compared = Result<(), Difference>;
 
+/// A call that is lent a sheet and a buffer, and hands back the length of what it wrote.
+type Writes = fn(&[u8], &mut [u8]) -> Result<usize, Refusal>;
+
 /// What a call did: its buffer and its answer.
 struct Seen<'a> {
     lent: &'a Lent,
@@ -161,13 +164,20 @@ impl<'a> Caller<'a> {
         self.told(right, &format!("drawing of reading {number}, {room} bytes lent"), wanted, (given, text))
     }
 
-    pub fn tidy(&mut self, room: usize) -> Compared {
-        let wanted = self.known.tidy(room);
+    /// A call that writes a sheet.
+    fn sheet(&mut self, name: &str, room: usize, wanted: Result<&[u8], Refused>, call: Writes) -> Compared {
         let mut lent = Lent::new(self.random, room);
-        let given = bixtogan::tidy(self.sheet.lend(), lent.lend_mut()).map_err(Refusal::number);
+        let given = call(self.sheet.lend(), lent.lend_mut()).map_err(Refusal::number);
         let right = Self::is_written(&lent, wanted, given);
-        let call = format!("tidy, {room} bytes lent");
-        self.told(right, &call, wanted.map(hex), (given, hex(lent.lend())))
+        self.told(right, &format!("{name}, {room} bytes lent"), wanted.map(hex), (given, hex(lent.lend())))
+    }
+
+    pub fn tidy(&mut self, room: usize) -> Compared {
+        self.sheet("tidy", room, self.known.tidy(room), bixtogan::tidy)
+    }
+
+    pub fn labelled(&mut self, room: usize) -> Compared {
+        self.sheet("labelled", room, self.known.labelled(room), bixtogan::labelled)
     }
 
     pub fn fragments(&mut self, records: usize) -> Compared {

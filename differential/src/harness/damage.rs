@@ -8,10 +8,10 @@ pub fn damaged(random: &mut Random, sheet: &[u8]) -> Vec<u8> {
     let mut bytes = sheet.to_vec();
     let commands = (sheet.len() - 3) / 3;
     let at = random.below(bytes.len());
-    match random.below(16) {
+    match random.below(17) {
         0 => bytes[at] ^= 1 << random.below(8),
         1 => bytes[at] = random.byte(),
-        2 => bytes[at] = random.byte() % 6,
+        2 => bytes[at] = random.byte() % 8,
         3 => bytes.truncate(at),
         4 => bytes.extend((0..random.between(1, 5)).map(|_| random.byte() % 4).collect::<Vec<u8>>()),
         5 => bytes.insert(at, random.byte() % 4),
@@ -60,6 +60,12 @@ pub fn damaged(random: &mut Random, sheet: &[u8]) -> Vec<u8> {
                 let end = bytes.len() - 1;
                 bytes.splice(end..end, [2, edge[2], edge[1]]);
             }
+        }
+        // A command of labelled sheets, with its operands or without.
+        14 => {
+            let from = 2 + 3 * random.below(commands + 1);
+            let command: &[u8] = random.pick(&[&[5, 0, 7], &[5], &[6]]);
+            bytes.splice(from..from, command.iter().copied());
         }
         // A command turned round, or of the other kind.
         _ if commands > 0 => {

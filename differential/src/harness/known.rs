@@ -3,7 +3,7 @@ use differential::graph::Graph;
 use differential::listing::{self, Leave};
 use differential::placing::{self, Answers};
 use differential::sheet;
-use differential::{cycle, drawing, fragments, hypernormal, rule1, Refused, DRAWING, LAST};
+use differential::{cycle, drawing, fragments, hypernormal, labelled, rule1, Refused, DRAWING, LAST};
 
 /// How many readings there are, as far as it was worked out.
 #[derive(Clone, Copy, Debug, PartialEq, Eq)]
@@ -38,6 +38,8 @@ pub struct Facts {
 pub struct Known {
     pub bytes: Vec<u8>,
     pub facts: Result<Facts, Refused>,
+    /// What is handed back of them as a labelled sheet.
+    pub plain: Result<Vec<u8>, Refused>,
 }
 
 /// Graphs that the recursion may look at before free fragments help it.
@@ -128,7 +130,8 @@ impl Known {
             Ok(written) => Ok(Facts::new(&written, wanted)?),
             Err(refused) => Err(refused),
         };
-        Ok(Known { bytes: bytes.to_vec(), facts })
+        let plain = labelled::written(bytes).map(|written| sheet::tidy(&written));
+        Ok(Known { bytes: bytes.to_vec(), facts, plain })
     }
 
     fn read(&self) -> Result<&Facts, Refused> {
@@ -201,6 +204,14 @@ impl Known {
             return Err(10);
         }
         Ok(&facts.tidy)
+    }
+
+    pub fn labelled(&self, room: usize) -> Result<&[u8], Refused> {
+        let plain = self.plain.as_ref().map_err(|&refused| refused)?;
+        if room < plain.len() {
+            return Err(10);
+        }
+        Ok(plain)
     }
 
     pub fn table(&self, records: usize) -> Result<&[[u8; 3]], Refused> {

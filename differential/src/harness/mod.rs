@@ -7,6 +7,7 @@ pub mod deep;
 pub mod difference;
 mod known;
 mod lent;
+mod mislabelled;
 mod put;
 mod raw;
 mod tally;
@@ -14,13 +15,14 @@ mod trial;
 
 pub use difference::Difference;
 pub use tally::Tally;
-pub use trial::{try_any, try_damaged};
+pub use trial::{try_any, try_damaged, try_mislabelled};
 
 use differential::graph::Graph;
 use differential::random::Random;
 use differential::sheet;
 use differential::sheets::{
     bared, chain, crowded_graph, near_overgrown, random_fork, random_graph, repeating, shuffled, side_by_side, untidy,
+    WIDE,
 };
 
 /// A graph without bare nodes.
@@ -49,7 +51,7 @@ fn random_fragments(random: &mut Random, index: u64) -> Graph {
 /// Random sheet number `index`, which the seed fixes.
 pub fn random_sheet(random: &mut Random, index: u64) -> Vec<u8> {
     let graph = match random.below(24) {
-        0 => near_overgrown(random),
+        0 => near_overgrown(random, &WIDE),
         kind => {
             let graph = random_fragments(random, index);
             if kind < 12 {

@@ -116,6 +116,11 @@ fn lengths(caller: &mut Caller) -> Compared {
     let mut lent = Lent::new(caller.random, room);
     let given = raw::tidy(caller.sheet.lend(), lent.lend_mut(), before);
     caller.told(given == wanted, "bixtogan_tidy, number put", wanted, given)?;
+    let room = some_room(caller, caller.known.plain.as_ref().map_or(30, Vec::len));
+    let wanted = told(caller.known.labelled(room).map(|bytes| bytes.len() as u64), before);
+    let mut lent = Lent::new(caller.random, room);
+    let given = raw::labelled(caller.sheet.lend(), lent.lend_mut(), before);
+    caller.told(given == wanted, "bixtogan_labelled, number put", wanted, given)?;
     fragments(caller, before)
 }
 

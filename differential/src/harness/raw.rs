@@ -47,6 +47,12 @@ pub fn tidy(sheet: &[u8], out: &mut [u8], mut length: u64) -> Told<u64> {
     (returned, length)
 }
 
+pub fn labelled(sheet: &[u8], out: &mut [u8], mut length: u64) -> Told<u64> {
+    let (at, room) = (out.as_mut_ptr(), out.len());
+    let returned = unsafe { foreign::bixtogan_labelled(sheet.as_ptr(), sheet.len(), at, room, &mut length) };
+    (returned, length)
+}
+
 /// With room in bytes, so that lengths between whole records are tried as well.
 pub fn fragments(sheet: &[u8], out: &mut [u8], mut records: u64) -> Told<u64> {
     let (at, room) = (out.as_mut_ptr(), out.len());

@@ -13,6 +13,8 @@ pub struct Tally {
     pub grown: u64,
     /// Those that have no reading.
     pub unsolvable: u64,
+    /// Those that are accepted as labelled sheets.
+    pub labelled: u64,
     pub calls: u64,
 }
 
@@ -23,7 +25,8 @@ impl Tally {
         let overgrown = u64::from(known.facts.as_ref().is_err_and(|&number| number == 13));
         let grown = u64::from(known.facts.as_ref().is_ok_and(|facts| facts.written < facts.nodes()));
         let unsolvable = u64::from(known.facts.as_ref().is_ok_and(|facts| !facts.solvable));
-        Tally { sheets: 1, refused, overgrown, grown, unsolvable, calls: 0 }
+        let labelled = u64::from(known.plain.is_ok());
+        Tally { sheets: 1, refused, overgrown, grown, unsolvable, labelled, calls: 0 }
     }
 }
 
@@ -34,6 +37,7 @@ impl AddAssign for Tally {
         self.overgrown += other.overgrown;
         self.grown += other.grown;
         self.unsolvable += other.unsolvable;
+        self.labelled += other.labelled;
         self.calls += other.calls;
     }
 }

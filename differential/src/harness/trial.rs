@@ -2,7 +2,8 @@
 use super::calls::{Caller, Compared};
 use super::known::{Facts, Known};
 use super::tally::Tally;
-use super::{checks, damage, put, Difference};
+use super::{checks, damage, mislabelled, put, Difference};
+use differential::labelling::Labelled;
 use differential::random::Random;
 use differential::{DRAWING, LAST};
 
@@ -28,11 +29,12 @@ pub fn known(bytes: &[u8], wanted: usize) -> Result<Known, Difference> {
     })
 }
 
-/// All calls on any bytes, damaged or not.
+/// All calls on any bytes, damaged or not; and on the plain sheet that is handed back of a labelled one.
 pub fn try_any(random: &mut Random, bytes: &[u8]) -> Result<Tally, Difference> {
     let known = known(bytes, wanted(random))?;
     let mut caller = Caller::new(&known, random);
     put::numbers(&mut caller)?;
+    labelled(&mut caller)?;
     match &known.facts {
         Err(_) => refused(&mut caller)?,
         Ok(facts) => {
@@ -45,7 +47,11 @@ pub fn try_any(random: &mut Random, bytes: &[u8]) -> Result<Tally, Difference> {
             checks::cycles(&mut caller, facts)?;
         }
     }
-    Ok(caller.tally)
+    let mut tally = caller.tally;
+    if let Ok(plain) = &known.plain {
+        tally += try_any(random, plain)?;
+    }
+    Ok(tally)
 }
 
 /// All calls on damaged forms of the sheet.
@@ -53,6 +59,16 @@ pub fn try_damaged(random: &mut Random, bytes: &[u8], times: usize) -> Result<Ta
     let mut tally = Tally::default();
     for _ in 0..times {
         let damaged = if random.once_in(8) { damage::noise(random) } else { damage::damaged(random, bytes) };
+        tally += try_any(random, &damaged)?;
+    }
+    Ok(tally)
+}
+
+/// All calls on damaged forms of the labelled sheet.
+pub fn try_mislabelled(random: &mut Random, sheet: &Labelled, times: usize) -> Result<Tally, Difference> {
+    let mut tally = Tally::default();
+    for _ in 0..times {
+        let damaged = mislabelled::damaged(random, sheet);
         tally += try_any(random, &damaged)?;
     }
     Ok(tally)
@@ -80,6 +96,15 @@ fn refused(caller: &mut Caller) -> Compared {
     }
     for room in lengths(caller.random, DRAWING) {
         caller.drawing(1, room)?;
+    }
+    Ok(())
+}
+
+/// The call for labelled sheets, with buffers around what is handed back, or of any length.
+fn labelled(caller: &mut Caller) -> Compared {
+    let length = caller.known.plain.as_ref().map_or(caller.known.bytes.len(), Vec::len);
+    for room in lengths(caller.random, length) {
+        caller.labelled(room)?;
     }
     Ok(())
 }
