@@ -12,9 +12,10 @@ use Rattle.graph.specs.Graph.{Graph, grown}
 use Rattle.graph.specs.Placing.{placing}
 use Rattle.graph.specs.Table.{fragments}
 use Rattle.graph.specs.declared.Fragment.{Fragment}
-use Rattle.format.specs.Sheet.{Content, Outcome, refused, accepted, outcome, tidy}
+use Rattle.format.specs.Sheet.{Content, Outcome, refused, accepted, outcomeOf, outcome, tidy}
 use Rattle.format.specs.Refusal.{number}
 use Rattle.theory_format.proofs.Spelling.{accepted-grown}
+use Rattle.format.specs.declared.Form.{Form}
 use Rattle.format.specs.declared.Form.the-variants.{Plain}
 use Rattle.theory_format.proofs.Refusals.{refused-number, not-9}
 use Rattle.check_placing.specs.Answered.{Answered}
@@ -94,10 +95,10 @@ no-placing (PlacingCall.answered a f x) h e =
 
 -- "Checking, tidying and the fragment table never give 9."
 
--- 1 to 4, 6, 8, 12 and 13 are the sheet's, and after them comes only 10
-never : (bs : List ℕ) (small : Content → Type 0) (o : Outcome) (k : ℕ) → outcome bs ≡ o → Numbered (λ s. First 10 (small s) NoRefusal) o k → k ≡ asNoReading → ⊥
-never bs small (refused why) k is e n = not-9 Plain (number why) (refused-number Plain bs why is) (sym e ∙ n)
-never bs small (accepted s) k is x n = ⊎-elim (λ (y : small s × (k ≡ 10)). omega (arith, n, y .1)) (λ (y : (small s → ⊥) × (k ≡ 0)). omega (arith, n, y .1)) x
+-- 1 to 4, 6, 8 and 12 to 16 are the sheet's, and after them comes only 10
+never : (f : Form) (bs : List ℕ) (small : Content → Type 0) (o : Outcome) (k : ℕ) → outcomeOf f bs ≡ o → Numbered (λ s. First 10 (small s) NoRefusal) o k → k ≡ asNoReading → ⊥
+never f bs small (refused why) k is e n = not-9 f (number why) (refused-number f bs why is) (sym e ∙ n)
+never f bs small (accepted s) k is x n = ⊎-elim (λ (y : small s × (k ≡ 10)). omega (arith, n, y .1)) (λ (y : (small s → ⊥) × (k ≡ 0)). omega (arith, n, y .1)) x
 
 nodes-never : (bs : List ℕ) (o : Outcome) (r : Measured) → outcome bs ≡ o → NodesOf o r → measuredNumber r ≡ asNoReading → ⊥
 nodes-never bs (refused why) r is e n = not-9 Plain (number why) (refused-number Plain bs why is) (sym (ap measuredNumber e) ∙ n)
@@ -119,16 +120,17 @@ check-cycle-never-9 bs cycle r = cycle-never bs cycle (outcome bs) r refl
 
 pub check-placing-never-9 : (bs bytes : List ℕ) (r : PlacingChecked) → PlacingOf (outcome bs) bytes r → placingNumber r ≡ asNoReading → ⊥
 check-placing-never-9 bs bytes r x =
-    never bs (λ s. length bytes < s .graph .nodes) (outcome bs) (placingNumber r) refl (placing-number (outcome bs) bytes r x)
+    never Plain bs (λ s. length bytes < s .graph .nodes) (outcome bs) (placingNumber r) refl (placing-number (outcome bs) bytes r x)
 
-pub tidy-never-9 : (bs : List ℕ) (r : Tidied) (old new : List ℕ) → Tidies (outcome bs) r old new → tidiedNumber r ≡ asNoReading → ⊥
-tidy-never-9 bs r old new x =
-    never bs (λ s. length old < length (tidy (s .written))) (outcome bs) (tidiedNumber r) refl (tidy-numbered (outcome bs) r old new x)
+-- of a plain sheet, and of a labelled one
+pub tidy-never-9 : (f : Form) (bs : List ℕ) (r : Tidied) (old new : List ℕ) → Tidies (outcomeOf f bs) r old new → tidiedNumber r ≡ asNoReading → ⊥
+tidy-never-9 f bs r old new x =
+    never f bs (λ s. length old < length (tidy (s .written))) (outcomeOf f bs) (tidiedNumber r) refl (tidy-numbered (outcomeOf f bs) r old new x)
 
 pub table-never-9 : (bs : List ℕ) (r : Table) (old new : List ℕ) → Tabled (outcome bs) r old new → tableNumber r ≡ asNoReading → ⊥
 table-never-9 bs r old new x =
-    never bs (λ s. length old < size (s .graph)) (outcome bs) (tableNumber r) refl (table-numbered (outcome bs) x)
+    never Plain bs (λ s. length old < size (s .graph)) (outcome bs) (tableNumber r) refl (table-numbered (outcome bs) x)
 
 pub records-never-9 : (bs : List ℕ) (r : Table) (old new : List Fragment) → Recorded (outcome bs) r old new → tableNumber r ≡ asNoReading → ⊥
 records-never-9 bs r old new x =
-    never bs (λ s. length old < length (fragments (s .graph))) (outcome bs) (tableNumber r) refl (records-numbered (outcome bs) x)
+    never Plain bs (λ s. length old < length (fragments (s .graph))) (outcome bs) (tableNumber r) refl (records-numbered (outcome bs) x)
