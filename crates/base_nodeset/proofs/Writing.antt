@@ -1,16 +1,16 @@
 -- Bytes written for each member of a set, the lowest first: a loop that takes the members out and writes f of each.
 use Prim.Native.Nat.{ℕ, zero, suc, _+_, _≤_, _<_}
-use mathlib.Core.Path.{_≡_, refl, sym, _∙_}
-use mathlib.Core.List.{List, [], _++_, append-assoc, append-nil}
+use mathlib.Core.Path.{_≡_, refl, sym, ap, subst, _∙_}
+use mathlib.Core.List.{List, [], _∷_, _++_, append-assoc, append-nil}
 use mathlib.Core.Bool.{false, cond}
 use mathlib.Core.Logic.{⊎-elim}
 use native.Mathlib.Nat.{eq-or-lt-of-le}
 use native.Mathlib.Omega.{arith}
 use lib.ListN.{length, length-append}
 use borrow.Author.Tests.{eq-eqb, ne-eqb}
-use Rattle.base_finite.specs.Below.{spread}
+use Rattle.base_finite.specs.Below.{count, spread, select}
 use Rattle.base_finite.specs.Stores.{Written}
-use Rattle.base_finite.proofs.Runs.{spread-gap}
+use Rattle.base_finite.proofs.Runs.{spread-gap, select-is, select-length}
 use Rattle.base_finite.proofs.Stores.{written-none, written-more, room}
 use Rattle.base_nodeset.specs.Set.{mem, Empty, Lowest}
 use Rattle.base_nodeset.specs.declared.NodeSet.{NodeSet}
@@ -79,3 +79,14 @@ module _ (f : ℕ → List ℕ) (all : NodeSet) where
 
     pub all-written : Empty left → Written old start (each f all) new at
     all-written none = rw (← w .rest, each-none f left none, append-nil) (w .so-far)
+
+-- the members themselves, a byte each
+
+abbrev pub itself : ℕ → List ℕ
+itself k = k ∷ []
+
+pub members-fit : (s : NodeSet) (at : ℕ) (out : List ℕ) → at + count 128 (mem s) ≤ length out → at + length (each itself s) ≤ length out
+members-fit s at out fits = omega (arith, fits, select-length 128 (mem s), ap length (select-is 128 (mem s)))
+
+pub members-written : (s : NodeSet) {old new : List ℕ} {at r : ℕ} → Written old at (each itself s) new r → Written old at (select 128 (mem s)) new r
+members-written s {old} {new} {at} {r} w = subst (λ (bs : List ℕ). Written old at bs new r) (sym (select-is 128 (mem s))) w

@@ -1,8 +1,10 @@
 // A set of node numbers 0..127, as two words of bits, by value.
 ghost use mathlib.Core.Path.{_≡_};
 ghost use mathlib.Core.Bool.{not};
-ghost use Prim.Native.Nat.{_+_, _<_};
-ghost use Rattle.base_finite.specs.Below.{any, count, least};
+ghost use Prim.Native.Nat.{_+_, _≤_, _<_};
+ghost use lib.ListN.{length};
+ghost use Rattle.base_finite.specs.Below.{any, count, least, select};
+ghost use Rattle.base_finite.specs.Stores.{Written};
 ghost use Rattle.base_nodeset.specs.Set.{mem, Empty, Only, OfByte, Inserted, Removed, Union, Intersection, Difference, Pops};
 
 pub struct NodeSet {
@@ -163,5 +165,21 @@ impl NodeSet {
         ensures { λ r. ⌜ r ≡ count 128 (mem self) ⌝ }
     {
         u64::count_ones(self.low) as usize + u64::count_ones(self.high) as usize
+    }
+    // The members, the lowest first, put into the bytes from `at` on. Gives the place after the last.
+    pub fn list(self, out: &mut [u8], at: usize) -> usize
+        requires { ⌜ at + count 128 (mem self) ≤ length (now out) ⌝ }
+        ensures { λ r. ⌜ Written (now (out .entry)) at (select 128 (mem self)) (now (out .exit)) r ⌝ }
+    {
+        let mut left = self;
+        let mut end = at;
+        loop {
+            let Popped::Member(x, rest) = left.pop() else {
+                return end;
+            };
+            out[end] = x as u8;
+            end += 1;
+            left = rest;
+        }
     }
 }

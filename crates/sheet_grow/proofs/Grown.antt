@@ -12,10 +12,9 @@ use Rattle.base_finite.specs.Below.{count, spread, select}
 use Rattle.base_finite.specs.Stores.{Written}
 use Rattle.base_finite.proofs.Laws.{by-bool, and-both, neither, count-ext}
 use Rattle.base_finite.proofs.Bounds.{count-cut}
-use Rattle.base_finite.proofs.Runs.{sets-append, select-is, select-length, select-ext, select-cut}
+use Rattle.base_finite.proofs.Runs.{sets-append, select-length, select-ext, select-cut}
 use Rattle.base_nodeset.specs.Set.{mem, Difference}
 use Rattle.base_nodeset.specs.declared.NodeSet.{NodeSet}
-use Rattle.base_nodeset.proofs.Writing.{each}
 use Rattle.base_tables.specs.Tables.{Holds}
 use Rattle.base_tables.specs.Trees.{InnerSet, RootSet, innerIn, nodeIn}
 use Rattle.base_tables.proofs.Held.{held-more, held-tree}
@@ -24,21 +23,10 @@ use Rattle.graph.specs.Graph.{Graph, entered, left, none, bare, addedLeaf, grow
 use Rattle.theory_edges.proofs.Growing.{leaf-next, leaf-same, leaf-from, leaf-mono, tree-next, tree-same, unentered-beyond}
 use Rattle.sheet_grow.specs.Grow.{BareSet, bareIn}
 
--- the entry of v's leaf
-abbrev pub entry : ℕ → List ℕ
-entry v = v ∷ []
-
 -- the set of them
 pub bare-set : (n : ℕ) (parents : List ℕ) (inner roots r : NodeSet) → InnerSet n parents inner → RootSet n parents roots → Difference roots inner r → BareSet n parents r
 unfolding bareIn
 bare-set n parents inner roots r is-inner is-roots is v h = is v ∙ rw (is-roots v, is-inner v h)
-
--- the leaves of all members have room
-pub leaves-fit : (s : NodeSet) (n : ℕ) (table : List ℕ) → length table ≡ 128 → n + count 128 (mem s) ≤ 128 → n + length (each entry s) ≤ length table
-leaves-fit s n table long fits = omega (arith, long, fits, select-length 128 (mem s), ap length (select-is 128 (mem s)))
-
-pub leaves-written : (s : NodeSet) {old new : List ℕ} {at r : ℕ} → Written old at (each entry s) new r → Written old at (select 128 (mem s)) new r
-leaves-written s {old} {new} {at} {r} w = subst (λ (bs : List ℕ). Written old at bs new r) (sym (select-is 128 (mem s))) w
 
 module _ (n : ℕ) (parents : List ℕ) (s : NodeSet) (is : BareSet n parents s) where
   pub set-counted : count 128 (mem s) ≡ count 128 (bareIn n parents)
