@@ -52,6 +52,18 @@ count-grows n p q i f h e t =
     let le : count n p ≤ count n rest = count-mono n p rest (λ k l pk. let d : k ≡ i → ⊥ = λ j. true≢false (sym pk ∙ (rw j e)) in rw (f k l pk, ne-eqb k i d)) in
     omega arith
 
+-- two tests that never hold together are counted one after the other
+pub count-apart : (n : ℕ) (p q : ℕ → Bool) → ((k : ℕ) → k < n → p k ≡ true → q k ≡ true → ⊥) → count n p + count n q ≤ count n (λ k. p k || q k)
+unfolding count
+count-apart zero p q f = omega arith
+count-apart (suc n) p q f =
+    let ih : count n p + count n q ≤ count n (λ k. p k || q k) = count-apart n p q (λ k l. f k (omega arith)) in
+    by-bool (p n)
+    (λ (e : p n ≡ true).
+    let other : q n ≡ false = not-holding (q n) (f n (omega arith) e) in
+    rw (e, other) (omega arith))
+    (λ (e : p n ≡ false). rw e (omega arith))
+
 -- none, and one number more
 
 pub none-counted : (k : ℕ) (p : ℕ → Bool) → 0 < k → leb k (count 0 p) ≡ false

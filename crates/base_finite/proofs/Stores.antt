@@ -1,5 +1,5 @@
 -- Texts stored one after the other, and tables that are filled entry by entry.
-use Prim.Native.Nat.{ℕ, _+_, _≤_, _<_}
+use Prim.Native.Nat.{ℕ, zero, suc, _+_, _≤_, _<_}
 use mathlib.Core.Path.{_≡_, refl, sym, ap, _∙_}
 use mathlib.Core.List.{List, [], _∷_, _++_}
 use mathlib.Core.Bool.{true, false, cond}
@@ -7,8 +7,8 @@ use native.Mathlib.Nat.{add-zero, add-assoc}
 use native.Mathlib.Numerals.{add-one}
 use native.Mathlib.Omega.{arith}
 use lib.Dec.{eqb, ltb}
-use lib.ListN.{length, getD, set, replicate, length-append, length-replicate, getD-replicate, List·getD-eq-default}
-use lib.Seq.{length-sets, getD-set-same, getD-set-other, ext-getD}
+use lib.ListN.{length, getD, set, replicate, length-set, length-append, length-replicate, getD-replicate, List·getD-eq-default}
+use lib.Seq.{sets, length-sets, getD-set-same, getD-set-other, ext-getD}
 use borrow.Author.Tests.{eqb-true, eqb-false, lt-ltb, le-ltb, ltb-true, ltb-false}
 use Rattle.base_finite.proofs.Laws.{by-bool}
 use Rattle.base_finite.proofs.Runs.{sets-append}
@@ -42,6 +42,28 @@ written-two old at bs mid end x y w =
 -- a store keeps the length
 pub written-length : (old : List ℕ) (at : ℕ) (bs new : List ℕ) (end : ℕ) → Written old at bs new end → length new ≡ length old
 written-length old at bs new end w = ap length (w .stored) ∙ length-sets old at bs
+
+-- what a run of stores leaves at each place: before it, in it and after it
+
+pub stored-before : (bs l : List ℕ) (i k : ℕ) → k < i → getD (sets l i bs) k 0 ≡ getD l k 0
+stored-before [] l i k h = refl
+stored-before (b ∷ bs) l i k h =
+    let other : k ≡ i → ⊥ = λ e. omega arith in
+    stored-before bs (set l i b) (suc i) k (omega arith) ∙ getD-set-other l i k b 0 other
+
+pub stored-in : (bs l : List ℕ) (i k : ℕ) → k < length bs → i + length bs ≤ length l → getD (sets l i bs) (i + k) 0 ≡ getD bs k 0
+stored-in [] l i k h fits = absurd (omega arith)
+stored-in (b ∷ bs) l i zero h fits =
+    rw add-zero (stored-before bs (set l i b) (suc i) i (omega arith) ∙ getD-set-same l i b 0 (omega arith))
+stored-in (b ∷ bs) l i (suc k) h fits =
+    let e : i + suc k ≡ suc i + k = omega arith in
+    rw e (stored-in bs (set l i b) (suc i) k (omega arith) (omega (arith, length-set l i b)))
+
+pub stored-after : (bs l : List ℕ) (i k : ℕ) → i + length bs ≤ k → getD (sets l i bs) k 0 ≡ getD l k 0
+stored-after [] l i k h = refl
+stored-after (b ∷ bs) l i k h =
+    let other : k ≡ i → ⊥ = λ e. omega arith in
+    stored-after bs (set l i b) (suc i) k (omega arith) ∙ getD-set-other l i k b 0 other
 
 -- where one part more has room in the whole, it has room after the parts passed
 pub room : (old : List ℕ) (start : ℕ) (bs new : List ℕ) (at : ℕ) (more whole : List ℕ) → Written old start bs new at → length (bs ++ more) ≤ length whole

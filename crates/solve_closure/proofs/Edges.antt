@@ -1,9 +1,9 @@
--- The steps of the loops: a column read row by row, rows joined one by one, and edges added one after the other.
+-- The steps of the loops: a column read row by row, rows joined one by one, and edges put into the rows one after the other.
 use Prim.Native.Nat.{ℕ, zero, suc, _+_, _*_, _-_, _%_, _^_, _≤_, _<_}
 use mathlib.Core.Path.{_≡_, refl, sym, _∙_}
 use mathlib.Core.List.{List}
 use mathlib.Core.Bool.{Bool, true, false, not, _&&_, _||_, or-assoc, false≢true}
-use mathlib.Core.Logic.{⊎-elim, _↔_}
+use mathlib.Core.Logic.{⊎-elim}
 use native.Mathlib.Nat.{zero-mul, zero-mod}
 use native.Mathlib.Omega.{arith}
 use lib.Bits.{bitOr}
@@ -18,12 +18,10 @@ use Rattle.base_nodeset.proofs.Words.{bit-zero, bit-or, bit-power, shift-one}
 use Rattle.base_nodeset.proofs.Laws.{member-zero, member-low, member-high}
 use Rattle.base_nodeset.proofs.Members.{removed-member}
 use Rattle.graph.specs.Graph.{none}
-use Rattle.theory_forest.proofs.Closure.{Adding}
-use Rattle.theory_forest.proofs.Table.{or-holds, and-holds, eqb-holds}
 use Rattle.base_tables.specs.Rows.{IsRow, inRow as inPair}
 use Rattle.base_tables.specs.Sets.{inRow, RowPut}
-use Rattle.solve_closure.specs.Closing.{Rising, Joined, Extended, Links, linkTo, linkIn, headOf, headIn, Closed, Adds}
-use Rattle.solve_closure.proofs.Laws.{rows-map, path-iff, extended-rows}
+use Rattle.solve_descent.specs.Descent.{Among}
+use Rattle.solve_closure.specs.Closing.{Rising, Joined, Links, linkTo, linkIn, headIn, Adds}
 
 -- cleared rows
 
@@ -115,10 +113,6 @@ column-rising n a rows s r h is with-a x =
     (λ (e : eqb x a ≡ true). rw (e, eqb-true x a e, lt-ltb a n h))
     (λ (e : eqb x a ≡ false). rw e))
 
-pub rising-below : (n a : ℕ) (rows : List ℕ) (r : NodeSet) → Rising n a rows r → (x : ℕ) → mem r x ≡ true → x < n
-rising-below n a rows r rises x t =
-    ltb-true x n (and-both (ltb x n) (eqb x a || inRow rows x a) (sym (rises x) ∙ t) .0)
-
 -- the members one by one: those that are no longer left are done
 
 abbrev pub done : NodeSet → NodeSet → ℕ → Bool
@@ -165,56 +159,41 @@ joined-all set left more none h =
       row-is = λ u v. h .row-is u v ∙ rw (done-all set left none u);
     }
 
--- an edge: the rows that rise to a, joined with r and its row
-pub joined-extended : (n a r : ℕ) (over more row : NodeSet) {rows rows′ : List ℕ} → Rising n a rows over
-    → IsRow (inRow rows) r row → Inserted row r more → Joined (mem over) (mem more) rows rows′ → Extended n a r rows rows′
-joined-extended n a r over more row rises is-row with-r h =
-    record {
-      long = h .long;
-      row-is = λ u v. h .row-is u v ∙ rw (rises u, with-r v, is-row v);
-    }
+-- edges put into the rows
 
--- edges one after the other
-
-closed-ext : {e f : ℕ → ℕ → Bool} {rows : List ℕ} → ((u v : ℕ) → e u v ≡ f u v) → Closed e rows → Closed f rows
-closed-ext same h = rows-map (path-iff (λ u v. (λ t. sym (same u v) ∙ t, λ t. same u v ∙ t))) h
-
-pub adds-ext : {n : ℕ} {f g : ℕ → ℕ → Bool} {rows rows′ : List ℕ} → ((u v : ℕ) → f u v ≡ g u v) → Adds n f rows rows′ → Adds n g rows rows′
+pub adds-ext : {f g : ℕ → ℕ → Bool} {rows rows′ : List ℕ} → ((u v : ℕ) → f u v ≡ g u v) → Adds f rows rows′ → Adds g rows rows′
 adds-ext same h =
     record {
       long = h .long;
-      closed = λ e from c. closed-ext (λ u v. rw (same u v)) (h .closed e from c);
+      row-is = λ u v. h .row-is u v ∙ rw (same u v);
     }
 
-pub adds-none : (n : ℕ) (f : ℕ → ℕ → Bool) (rows : List ℕ) → ((u v : ℕ) → f u v ≡ false) → Adds n f rows rows
-adds-none n f rows never =
+pub adds-none : (f : ℕ → ℕ → Bool) (rows : List ℕ) → ((u v : ℕ) → f u v ≡ false) → Adds f rows rows
+adds-none f rows never =
     record {
       long = refl;
-      closed = λ e from c. closed-ext (λ u v. rw (never u v) (sym (or-false (e u v)))) c;
+      row-is = λ u v. rw (never u v) (sym (or-false (inRow rows u v)));
     }
 
-pub adds-more : {n : ℕ} {f g : ℕ → ℕ → Bool} {rows rows₁ rows₂ : List ℕ} → ((u v : ℕ) → f u v ≡ true → u < n)
-    → Adds n f rows rows₁ → Adds n g rows₁ rows₂ → Adds n (λ u v. f u v || g u v) rows rows₂
-adds-more {f = f} {g = g} starts h k =
+pub adds-more : {f g : ℕ → ℕ → Bool} {rows rows₁ rows₂ : List ℕ} → Adds f rows rows₁ → Adds g rows₁ rows₂ → Adds (λ u v. f u v || g u v) rows rows₂
+adds-more {f} {g} {rows} h k =
     record {
       long = k .long ∙ h .long;
-      closed = λ e from c.
-          closed-ext
-          (λ u v. or-assoc (e u v) (f u v) (g u v))
-          (k .closed (λ u v. e u v || f u v) (λ u v t. ⊎-elim (from u v) (starts u v) (or-cases (e u v) (f u v) t)) (h .closed e from c));
+      row-is = λ u v. k .row-is u v ∙ rw (h .row-is u v) (or-assoc (inRow rows u v) (f u v) (g u v));
     }
 
-pub extended-adds : (n a r : ℕ) {rows rows′ : List ℕ} → a < n → Extended n a r rows rows′ → Adds n (λ u v. eqb u a && eqb v r) rows rows′
-extended-adds n a r ha x =
+-- a row put back with the nodes that f holds of besides
+pub put-adds : (l : ℕ) (f : ℕ → Bool) (row : NodeSet) {joined : NodeSet} {rows rows′ : List ℕ} → IsRow (inRow rows) l row → ((v : ℕ) → mem joined v ≡ (mem row v || f v))
+    → RowPut l joined rows rows′ → Adds (λ u v. eqb u l && f v) rows rows′
+put-adds l f row {rows = rows} is-row is-joined put =
     record {
-      long = x .long;
-      closed = λ e from c. rows-map (path-iff (added e)) (extended-rows (λ u v. e u v ≡ true) n a r from ha c x);
+      long = put .long;
+      row-is = λ u v.
+          put .row-is u v
+          ∙ by-bool (eqb u l)
+          (λ (e : eqb u l ≡ true). rw (e, eqb-true u l e, is-joined v, is-row v))
+          (λ (e : eqb u l ≡ false). rw e (sym (or-false (inRow rows u v))));
     }
-  where
-    added : (e : ℕ → ℕ → Bool) (u v : ℕ) → Adding (λ u v. e u v ≡ true) a r u v ↔ ((e u v || eqb u a && eqb v r) ≡ true)
-    added e u v =
-        let law = or-holds (e u v) (eqb u a && eqb v r) (λ h. h, λ h. h) (and-holds (eqb u a) (eqb v r) (eqb-holds u a) (eqb-holds v r)) in
-        (law .1, law .0)
 
 -- one node's link more
 
@@ -239,10 +218,10 @@ link-parts n links u v t =
 pub link-intro : (n : ℕ) (links : List ℕ) (u v : ℕ) → v < n → (getD links v 0 ≡ none → ⊥) → u ≡ getD links v 0 → linkIn n links u v ≡ true
 link-intro n links u v h other is = rw (lt-ltb v n h, ne-eqb (getD links v 0) none other, eq-eqb u (getD links v 0) is)
 
-pub link-from : (n : ℕ) (links : List ℕ) → Links n links → (w : ℕ) → w ≤ n → (u v : ℕ) → linkIn w links u v ≡ true → u < n
-link-from n links k w h u v t =
-    let x = link-parts w links u v t in
-    rw (x .2) (k .node-or-none v (omega (arith, x .0)) (x .1))
+pub link-from : (n : ℕ) (links : List ℕ) → Links n links → (u v : ℕ) → linkIn n links u v ≡ true → u < n
+link-from n links k u v t =
+    let x = link-parts n links u v t in
+    rw (x .2) (k .node-or-none v (x .0) (x .1))
 
 pub link-absent : (above w u v : ℕ) → above ≡ none → linkTo above w u v ≡ false
 link-absent above w u v e = rw (eq-eqb above none e) (and-false (eqb v w))
@@ -257,40 +236,26 @@ link-present above w u v e =
 pub head-none : (low high : List ℕ) (u v : ℕ) → headIn 0 low high u v ≡ false
 head-none low high u v = rw (le-ltb u 0 (omega arith))
 
-pub head-more : (l : ℕ) (low high : List ℕ) (row : NodeSet) → ((v : ℕ) → mem row v ≡ inPair low high l v) → (u v : ℕ)
-    → (headIn l low high u v || headOf l row u v) ≡ headIn (l + 1) low high u v
-head-more l low high row is u v =
-    rw (below-more-test u l, is v)
+pub head-more : (l : ℕ) (low high : List ℕ) (u v : ℕ) → (headIn l low high u v || (eqb u l && inPair low high l v)) ≡ headIn (l + 1) low high u v
+head-more l low high u v =
+    rw (below-more-test u l)
     (by-bool (eqb u l)
     (λ (e : eqb u l ≡ true).
     let q : u ≡ l = eqb-true u l e in
     rw (e, q, le-ltb l l (omega arith)))
     (λ (e : eqb u l ≡ false). rw (e, or-false (ltb u l)) (or-false (headIn l low high u v))))
 
-pub head-from : (n l : ℕ) (low high : List ℕ) → l ≤ n → (u v : ℕ) → headIn l low high u v ≡ true → u < n
-head-from n l low high h u v t = omega (arith, ltb-true u l (and-both (ltb u l) (inPair low high u v) t .0))
+pub head-from : (n : ℕ) (low high : List ℕ) (u v : ℕ) → headIn n low high u v ≡ true → u < n
+head-from n low high u v t = ltb-true u n (and-both (ltb u n) (inPair low high u v) t .0)
 
--- the edges to the members of a row one by one
+-- the edges of two tables, put into cleared rows
 
-abbrev pub passed : ℕ → NodeSet → NodeSet → ℕ → ℕ → Bool
-passed l row left u v = eqb u l && done row left v
+-- the rows have the edges of f and of h, and no others
+pub record Edged (f h : ℕ → ℕ → Bool) (rows : List ℕ) : Type 0 where
+  pub row-is : (u v : ℕ) → inRow rows u v ≡ (f u v || h u v)
 
-pub passed-none : (l : ℕ) (row : NodeSet) (u v : ℕ) → passed l row row u v ≡ false
-passed-none l row u v = rw (done-none row v) (and-false (eqb u l))
+pub both-added : {f h : ℕ → ℕ → Bool} {rows₀ rows₁ rows₂ : List ℕ} → ((u v : ℕ) → inRow rows₀ u v ≡ false) → Adds f rows₀ rows₁ → Adds h rows₁ rows₂ → Edged f h rows₂
+both-added blank first second = record { row-is = λ u v. second .row-is u v ∙ rw (first .row-is u v, blank u v) }
 
-pub passed-more : (l : ℕ) (row : NodeSet) {r : ℕ} {left rest : NodeSet} → mem row r ≡ true → Lowest left r rest → (u v : ℕ)
-    → (passed l row left u v || (eqb u l && eqb v r)) ≡ passed l row rest u v
-passed-more l row {r} {left} in-row first u v =
-    rw (first .others v)
-    (by-bool (eqb v r)
-    (λ (e : eqb v r ≡ true).
-    let q : v ≡ r = eqb-true v r e in
-    rw (e, q, first .in-set, in-row) (by-bool (eqb u l) (λ i. rw i) (λ i. rw i)))
-    (λ (e : eqb v r ≡ false).
-    rw e (by-bool (eqb u l) (λ i. rw i (or-false (mem row v && not (mem left v)))) (λ i. rw i))))
-
-pub passed-all : (l : ℕ) (row left : NodeSet) → Empty left → (u v : ℕ) → passed l row left u v ≡ headOf l row u v
-passed-all l row left none u v = rw (done-all row left none v)
-
-pub passed-from : (n l : ℕ) (row left : NodeSet) → l < n → (u v : ℕ) → passed l row left u v ≡ true → u < n
-passed-from n l row left h u v t = omega (arith, eqb-true u l (and-both (eqb u l) (done row left v) t .0))
+pub both-among : {n : ℕ} {f h : ℕ → ℕ → Bool} {rows : List ℕ} → Edged f h rows → ((u v : ℕ) → f u v ≡ true → u < n) → ((u v : ℕ) → h u v ≡ true → u < n) → Among n rows
+both-among {f = f} {h = h} edged one other u v e = ⊎-elim (one u v) (other u v) (or-cases (f u v) (h u v) (sym (edged .row-is u v) ∙ e))

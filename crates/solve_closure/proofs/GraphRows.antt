@@ -1,9 +1,9 @@
--- The tables' edges are the graph's, a placing's bytes are its hangings, and so the rows of the one are the rows of the
--- other.
+-- The tables' edges are the graph's, and a placing's bytes are its hangings; so paths over rows that were given these edges are the
+-- descent relation.
 use Prim.Native.Nat.{ℕ, _≤_, _<_}
 use mathlib.Core.Path.{_≡_, sym, _∙_}
 use mathlib.Core.List.{List}
-use mathlib.Core.Bool.{true, false, false≢true}
+use mathlib.Core.Bool.{Bool, true}
 use mathlib.Core.Logic.{⊎-elim, _↔_}
 use native.Mathlib.Omega.{arith}
 use lib.Dec.{ltb}
@@ -11,7 +11,7 @@ use lib.ListN.{getD, take}
 use lib.Seq.{getD-take}
 use borrow.Author.Tests.{lt-ltb}
 use Rattle.base_finite.proofs.Laws.{and-both}
-use Rattle.graph.specs.Graph.{Graph, TreeEdge, DominanceEdge, Descent, Path, one, more, among, parent, none}
+use Rattle.graph.specs.Graph.{Graph, TreeEdge, DominanceEdge, Descent, Path, among, parent, none}
 use Rattle.graph.specs.Placing.{placing, at, hangs, Below}
 use Rattle.theory_edges.proofs.Edges.{parent-among, parent-only}
 use Rattle.theory_edges.proofs.Ends.{leaf-below, root-below}
@@ -21,12 +21,12 @@ use Rattle.theory_forest.proofs.Table.{or-holds, hangs-parts}
 use Rattle.theory_forest.proofs.Forests.{placing-cases}
 use Rattle.base_tables.specs.Trees.{Parents}
 use Rattle.base_tables.specs.Rows.{inRow as inPair}
-use Rattle.base_tables.specs.Sets.{inRow, Long, Rows}
 use Rattle.base_tables.specs.Tables.{Tables}
+use Rattle.solve_descent.specs.Descent.{Edges}
 use Rattle.base_tables.proofs.TreeLaws.{tree-of, tables-parents, parent-here, has-parent}
-use Rattle.solve_closure.specs.Closing.{Links, linkIn, headIn, Closed, Adds}
-use Rattle.solve_closure.proofs.Laws.{rows-map, path-iff}
-use Rattle.solve_closure.proofs.Edges.{link-parts, link-intro, link-from}
+use Rattle.solve_closure.specs.Closing.{Links, linkIn, headIn}
+use Rattle.solve_closure.proofs.Laws.{path-iff}
+use Rattle.solve_closure.proofs.Edges.{Edged, link-parts, link-intro}
 
 -- what the callers' tables have
 
@@ -36,18 +36,9 @@ parents-links p =
     let long = p .long in
     record { long = omega arith; node-or-none = p .node-or-none }
 
--- no edge, no path
-
-no-path : {u v : ℕ} → Path (λ (x y : ℕ). false ≡ true) u v → ⊥
-no-path (one e) = false≢true e
-no-path (more p e) = false≢true e
-
-pub cleared-closed : {rows : List ℕ} → Long rows → ((u v : ℕ) → inRow rows u v ≡ false) → Closed (λ u v. false) rows
-cleared-closed l blank =
-    record {
-      long = l;
-      row-is = λ u v. (λ t. absurd (false≢true (sym (blank u v) ∙ t)), λ p. absurd (no-path p));
-    }
+-- a test that is another, which holds where R does
+by-test : {R : Type 0} (a b : Bool) → a ≡ b → (b ≡ true) ↔ R → (a ≡ true) ↔ R
+by-test a b same holds = (λ t. holds .0 (sym same ∙ t), λ r. same ∙ holds .1 r)
 
 module _ {n : ℕ} {parents lows highs : List ℕ} {edges : ℕ} (g : Graph) (t : Tables g n parents lows highs edges) where
   shaped : Shaped g
@@ -81,13 +72,9 @@ module _ {n : ℕ} {parents lows highs : List ℕ} {edges : ℕ} (g : Graph) (t 
         rw (lt-ltb u n (omega (arith, b .0))) (t .holds .heads-are u v ∙ h),
   )
 
-  -- rows that were cleared, then given the tables' edges
-  pub graph-built : {rows₀ rows₁ rows : List ℕ} → Closed (λ u v. false) rows₀ → Adds n (linkIn n parents) rows₀ rows₁
-      → Adds n (headIn n lows highs) rows₁ rows → Rows (Descent g) rows
-  graph-built start links heads =
-      rows-map
-      (path-iff (λ u v. or-holds (linkIn n parents u v) (headIn n lows highs u v) (tree-link u v) (dominance-head u v)))
-      (heads .closed (linkIn n parents) (link-from n parents (parents-links (tables-parents t)) n (omega arith)) (links .closed (λ u v. false) (λ u v e. absurd (false≢true e)) start))
+  -- paths over the rows that were given the tables' edges
+  pub graph-paths : {edged : List ℕ} → Edged (linkIn n parents) (headIn n lows highs) edged → (u v : ℕ) → Path (Edges edged) u v ↔ Descent g u v
+  graph-paths is = path-iff (λ u v. by-test _ _ (is .row-is u v) (or-holds (linkIn n parents u v) (headIn n lows highs u v) (tree-link u v) (dominance-head u v)))
 
   module _ (bytes : List ℕ) (is-placing : placing g (take n bytes) ≡ true) where
     byte : (v : ℕ) → v < n → at (take n bytes) v ≡ getD bytes v 0
@@ -114,9 +101,5 @@ module _ {n : ℕ} {parents lows highs : List ℕ} {edges : ℕ} (g : Graph) (t 
           link-intro n bytes u v below (λ e. omega (arith, leaf-below g u (b .0))) is,
     )
 
-    pub placing-built : {rows₀ rows₁ rows : List ℕ} → Closed (λ u v. false) rows₀ → Adds n (linkIn n parents) rows₀ rows₁
-        → Adds n (linkIn n bytes) rows₁ rows → Rows (Below g (take n bytes)) rows
-    placing-built start trees hangings =
-        rows-map
-        (path-iff (λ u v. or-holds (linkIn n parents u v) (linkIn n bytes u v) (tree-link u v) (hanging-link u v)))
-        (hangings .closed (linkIn n parents) (link-from n parents (parents-links (tables-parents t)) n (omega arith)) (trees .closed (λ u v. false) (λ u v e. absurd (false≢true e)) start))
+    pub placing-paths : {edged : List ℕ} → Edged (linkIn n parents) (linkIn n bytes) edged → (u v : ℕ) → Path (Edges edged) u v ↔ Below g (take n bytes) u v
+    placing-paths is = path-iff (λ u v. by-test _ _ (is .row-is u v) (or-holds (linkIn n parents u v) (linkIn n bytes u v) (tree-link u v) (hanging-link u v)))

@@ -1,5 +1,6 @@
 // The closure of a graph's or a placing's edges as rows: of each node the set of nodes under it, in a lent table of 128 sets.
-// An edge is added to closed rows in one pass over one column of them and one over the rows that it extends.
+// The rows get the edges first, and are then filled by the descent walk. What an edge adds to closed rows is found in one pass over
+// one column of them (`rising`) and one over the rows that it extends (`join`).
 use base_nodeset::NodeSet;
 use base_nodeset::Popped;
 use base_tables::rows;
@@ -7,6 +8,7 @@ use base_tables::sets::in_row;
 use base_tables::sets::put_at;
 use base_tables::sets::set_at;
 use graph::NONE;
+use solve_descent::fill;
 ghost use mathlib.Core.Path.{_≡_};
 ghost use mathlib.Core.Bool.{true, false, _&&_};
 ghost use mathlib.Core.List.{List};
@@ -21,7 +23,7 @@ ghost use Rattle.base_tables.specs.Trees.{Parents};
 ghost use Rattle.base_tables.specs.Rows.{Long as Paired};
 ghost use Rattle.base_tables.specs.Sets.{Long, inRow, Rows};
 ghost use Rattle.base_tables.specs.Tables.{Tables};
-ghost use Rattle.solve_closure.specs.Closing.{Rising, Joined, Extended, Links, linkTo, linkIn, headOf, headIn, Adds};
+ghost use Rattle.solve_closure.specs.Closing.{Rising, Joined, Links, linkTo, linkIn, headIn, Adds};
 
 // Some node below n lies under itself.
 pub fn cyclic(rows: &[u64], n: usize) -> bool
@@ -95,16 +97,6 @@ pub fn join(rows: &mut [u64], set: NodeSet, more: NodeSet)
     }
 }
 
-// The edge from a to r, added to closed rows. Row r is taken before any row changes, so cycles do no harm.
-fn add_edge(rows: &mut [u64], n: usize, a: usize, r: usize)
-    requires { ⌜ (2 * n ≤ length (now rows)) × (n ≤ 128) × (a < n) × (2 * r + 1 < length (now rows)) × (r < 128) ⌝ }
-    ensures { λ _. ⌜ Extended n a r (now (rows .entry)) (now (rows .exit)) ⌝ }
-{
-    let more = set_at(rows, r).with(r);
-    let over = rising(rows, n, a);
-    join(rows, over, more);
-}
-
 fn clear(rows: &mut [u64])
     requires { ⌜ Long (now rows) ⌝ }
     ensures { λ _. ⌜ ((u v : ℕ) → inRow (now (rows .exit)) u v ≡ false) ⌝ }
@@ -115,45 +107,32 @@ fn clear(rows: &mut [u64])
 }
 
 // The edge to v from the node above it, where there is one.
-fn add_link(rows: &mut [u64], n: usize, above: u8, v: usize)
-    requires { ⌜ Long (now rows) × (n ≤ 128) × (v < 128) × ((above ≡ none → ⊥) → above < n) ⌝ }
-    ensures { λ _. ⌜ Adds n (linkTo above v) (now (rows .entry)) (now (rows .exit)) ⌝ }
+fn add_link(rows: &mut [u64], above: u8, v: usize)
+    requires { ⌜ Long (now rows) × (v < 128) × ((above ≡ none → ⊥) → above < 128) ⌝ }
+    ensures { λ _. ⌜ Adds (linkTo above v) (now (rows .entry)) (now (rows .exit)) ⌝ }
 {
     if above != NONE {
-        add_edge(rows, n, above as usize, v);
+        let row = set_at(rows, above as usize).with(v);
+        put_at(rows, above as usize, row);
     }
 }
 
 fn add_links(links: &[u8], n: usize, rows: &mut [u64])
     requires { ⌜ Links n (now links) × Long (now rows) × (n ≤ 128) ⌝ }
-    ensures { λ _. ⌜ Adds n (linkIn n (now (links .entry))) (now (rows .entry)) (now (rows .exit)) ⌝ }
+    ensures { λ _. ⌜ Adds (linkIn n (now (links .entry))) (now (rows .entry)) (now (rows .exit)) ⌝ }
 {
     for v in 0..n {
-        add_link(rows, n, links[v], v);
-    }
-}
-
-// The edges from l to the members of the row.
-fn add_row(row: NodeSet, l: usize, n: usize, rows: &mut [u64])
-    requires { ⌜ Long (now rows) × (n ≤ 128) × (l < n) ⌝ }
-    ensures { λ _. ⌜ Adds n (headOf l row) (now (rows .entry)) (now (rows .exit)) ⌝ }
-{
-    let mut left = row;
-    loop {
-        let Popped::Member(r, rest) = left.pop() else {
-            return;
-        };
-        add_edge(rows, n, l, r);
-        left = rest;
+        add_link(rows, links[v], v);
     }
 }
 
 fn add_heads(heads_low: &[u64], heads_high: &[u64], n: usize, rows: &mut [u64])
     requires { ⌜ Paired (now «heads_low») (now «heads_high») × Long (now rows) × (n ≤ 128) ⌝ }
-    ensures { λ _. ⌜ Adds n (headIn n (now («heads_low» .entry)) (now («heads_high» .entry))) (now (rows .entry)) (now (rows .exit)) ⌝ }
+    ensures { λ _. ⌜ Adds (headIn n (now («heads_low» .entry)) (now («heads_high» .entry))) (now (rows .entry)) (now (rows .exit)) ⌝ }
 {
     for l in 0..n {
-        add_row(rows::set_at(heads_low, heads_high, l), l, n, rows);
+        let row = set_at(rows, l).union(rows::set_at(heads_low, heads_high, l));
+        put_at(rows, l, row);
     }
 }
 
@@ -168,6 +147,7 @@ pub fn graph_rows(parent: &[u8], heads_low: &[u64], heads_high: &[u64], n: usize
     clear(rows);
     add_links(parent, n, rows);
     add_heads(heads_low, heads_high, n, rows);
+    fill(rows, n);
 }
 
 // The descent relation of a placing, the first n bytes, of a graph with these parents.
@@ -181,4 +161,5 @@ pub fn placing_rows(parent: &[u8], placing: &[u8], n: usize, rows: &mut [u64])
     clear(rows);
     add_links(parent, n, rows);
     add_links(placing, n, rows);
+    fill(rows, n);
 }
