@@ -3,6 +3,7 @@
 //! that all agree.
 mod calls;
 mod cases;
+mod earlier;
 mod families;
 mod free;
 mod instructions;
@@ -33,6 +34,8 @@ usage: bench [--repeat N] [--limit SECONDS] [--readings PATH] [--instructions] [
        bench worst [--seed N] [--sheets N]
   --seed N         the seed of the first sheet (default 1); the next has the next seed
   --sheets N       how many random sheets (default 200) our calls are timed on; the slowest are printed with their seeds
+       bench earlier NOW EARLIER [--repeat N] [--family WORD]
+                        calls of the library beside those of an earlier build of it, both as shared objects
        bench sheet SEED                               the sheet of `worst` with that seed, as bytes
        bench list recursion|reduced|free < SHEET
 ";
@@ -109,6 +112,9 @@ fn run(arguments: &[String]) -> Option<Result<(), String>> {
     match words[..] {
         ["list", way] => list(way).map(Ok),
         ["sheet", seed] => std::io::stdout().write_all(&worst::sheet(seed.parse().ok()?)).ok().map(Ok),
+        ["earlier", now, before, ..] => {
+            options(&arguments[3..]).map(|options| earlier::print(now, before, options.repeat, &options.family))
+        }
         ["worst", ..] => seeds(&arguments[1..]).map(|(seed, sheets)| worst::search(seed, sheets)),
         _ => options(arguments).map(|options| tables::print(&options)),
     }
