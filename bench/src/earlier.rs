@@ -79,8 +79,9 @@ impl Library {
     }
 }
 
-/// Fragments of a root and a leaf, each under the one before; numbered from the top, or from the bottom.
-fn tall(from_top: bool) -> Case {
+/// Fragments of a root and a leaf, each under the one before; numbered from the top, or from the bottom. In a ring the first is under
+/// the last.
+fn tall(from_top: bool, ring: bool) -> Case {
     let name = |depth: usize| if from_top { depth } else { NODES - 1 - depth };
     let mut parent = vec![None; NODES];
     let mut dominance = Vec::new();
@@ -91,9 +92,12 @@ fn tall(from_top: bool) -> Case {
             dominance.push((name(depth), name(depth + 1)));
         }
     }
+    if ring {
+        dominance.push((name(NODES - 1), name(0)));
+    }
     dominance.sort_unstable();
-    let end = if from_top { "top" } else { "bottom" };
-    Case { name: format!("tall, {NODES} nodes from the {end}"), sheet: sheet::tidy(&Graph { parent, dominance }) }
+    let (what, end) = (if ring { "ring" } else { "tall" }, if from_top { "top" } else { "bottom" });
+    Case { name: format!("{what}, {NODES} nodes from the {end}"), sheet: sheet::tidy(&Graph { parent, dominance }) }
 }
 
 /// Prints the times of every call on every sheet whose name begins so. All answers are compared first.
@@ -101,7 +105,9 @@ pub fn print(now: &str, earlier: &str, repeat: usize, family: &str) -> Result<()
     let libraries = [Library::open(now)?, Library::open(earlier)?];
     println!("A call, microseconds, the median of {repeat}. A ratio above 1 is in our favour.\n");
     println!("| sheet | call | now | earlier | earlier / now |\n|---|---|---:|---:|---:|");
-    let cases = [tall(true), tall(false)].into_iter().chain(cases::all());
+    let tall =
+        [(true, false), (false, false), (true, true), (false, true)].map(|(from_top, ring)| tall(from_top, ring));
+    let cases = tall.into_iter().chain(cases::all());
     for case in cases.filter(|case| case.name.starts_with(family)) {
         let bytes = &case.sheet[..];
         let mut out = vec![0; 2 * NODES];
