@@ -50,6 +50,9 @@ module _ (fresh : NodeSet) (list : List ℕ) (k : ℕ) (room : k + count 128 (me
   fits : k + length (members fresh) ≤ length list
   fits = omega (arith, select-length 128 (mem fresh))
 
+  pub listed-kept : (i : ℕ) → i < k → getD list′ i 0 ≡ getD list i 0
+  listed-kept i h = rw (written .stored) (stored-before (members fresh) list k i h)
+
   entered : (d : ℕ) → d < length (members fresh) → getD list′ (k + d) 0 ≡ getD (members fresh) d 0
   entered d h = rw (written .stored) (stored-in (members fresh) list k d h fits)
 
@@ -61,7 +64,7 @@ module _ (fresh : NodeSet) (list : List ℕ) (k : ℕ) (room : k + count 128 (me
       by-bool (ltb i k)
       (λ (e : ltb i k ≡ true).
       let l : i < k = ltb-true i k e in
-      old l (rw (written .stored) (stored-before (members fresh) list k i l)))
+      old l (listed-kept i l))
       (λ (e : ltb i k ≡ false).
       let l : k ≤ i = ltb-false i k e in
       let is : i ≡ k + (i - k) = omega arith in
@@ -72,9 +75,6 @@ module _ (fresh : NodeSet) (list : List ℕ) (k : ℕ) (room : k + count 128 (me
   listed-there u h t =
       let there = select-has 128 (mem fresh) u h t in
       (k + there .0, omega arith, omega (arith, written .after, there .1), entered (there .0) (there .1) ∙ there .2)
-
-  pub listed-kept : (i : ℕ) → i < k → getD list′ i 0 ≡ getD list i 0
-  listed-kept i h = rw (written .stored) (stored-before (members fresh) list k i h)
 
   pub listed-more : (found found′ : ℕ → Bool) (old : List ℕ) → Listed found k old list → ((v : ℕ) → found v ≡ true → found′ v ≡ true)
       → ((v : ℕ) → mem fresh v ≡ true → found′ v ≡ true) → ((v : ℕ) → mem fresh v ≡ true → found v ≡ true → ⊥) → Listed found′ k′ old list′

@@ -30,7 +30,7 @@ fn to_visit(row: NodeSet, found: NodeSet, whole: bool) -> NodeSet
 }
 
 // The nodes under `node`. The row of a node has its successors; that of a member of `whole` has all the nodes under it, so that
-// none of these has to be visited. On the list the nodes before `at` have been visited, and those before `end` are still to visit.
+// none of these has to be visited. On the list the nodes before `at` have been visited, and the others before `end` are to visit.
 pub fn under(rows: &[u64], whole: NodeSet, node: usize, list: &mut [u8]) -> NodeSet
     requires { ⌜ Long (now rows) × Whole (now rows) whole × (node < 128) × (length (now list) ≡ 128) ⌝ }
     ensures { λ r. ⌜ Under (now (rows .entry)) node r ⌝ }
