@@ -166,6 +166,7 @@ impl NodeSet {
     {
         u64::count_ones(self.low) as usize + u64::count_ones(self.high) as usize
     }
+
     // The members, the lowest first, put into the bytes from `at` on. Gives the place after the last.
     pub fn list(self, out: &mut [u8], at: usize) -> usize
         requires { ⌜ at + count 128 (mem self) ≤ length (now out) ⌝ }
