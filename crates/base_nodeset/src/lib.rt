@@ -1,17 +1,19 @@
 // A set of node numbers 0..127, as two words of bits, by value.
+#![tactic(auto)]
+
 ghost use Rattle.std.specs.Prelude.{◌≡◌, not, ◌+◌, ◌≤◌, ◌<◌, length};
 ghost use Rattle.base_finite.specs.Below.{any, count, least, select};
 ghost use Rattle.base_finite.specs.Stores.{Written};
 ghost use Rattle.base_nodeset.specs.Set.{mem, Empty, Only, OfByte, Inserted, Removed, Union, Intersection, Difference, Pops};
 
-#[derive(Drop)]
+#[derive(Clone, Copy)]
 pub struct NodeSet {
     pub low: u64,
     pub high: u64,
 }
 
 // The lowest member, and the set without it.
-#[derive(Drop)]
+#[derive(Clone, Copy)]
 pub enum Popped {
     None,
     Member(usize, NodeSet),

@@ -9,7 +9,7 @@ use base_nodeset::NodeSet;
 use graph::NONE;
 
 // How many nodes there are, which are leaves and which are roots.
-#[derive(Drop)]
+#[derive(Clone, Copy)]
 pub struct Trees {
     pub n: usize,
     pub leaves: NodeSet,

@@ -1,5 +1,7 @@
 // The lines of document 01's "The printed list", and bytes in hexadecimal. Each function writes from `at` on and hands
 // back the place after.
+#![tactic(auto)]
+
 ghost use Rattle.std.specs.Prelude.{◌≡◌, ◌+◌, ◌≤◌, ◌<◌, ◌++◌, length};
 ghost use Rattle.format.specs.Text.{decimal, line, count_line, refused_line};
 ghost use Rattle.base_finite.specs.Stores.{Written};

@@ -1,5 +1,7 @@
 // The calls of `counter` for programs in C. The result of each is 0 or the number of the refusal; what the answer carries is put
 // where the caller wants it. include/bixtogan.h is the page for callers.
+#![tactic(auto)]
+
 ghost use Rattle.format.specs.Sheet.{outcome_of, outcome};
 ghost use Rattle.format.specs.declared.Form.TheVariants.{Labelled};
 ghost use Rattle.capi.specs.Interface.{CountTold, ReadingTold, ReadingsTold, ConfigurationTold, DrawingTold, TermTold, NodesTold, TidyTold, FragmentsTold, CycleTold, PlacingTold};

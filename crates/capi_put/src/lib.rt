@@ -1,4 +1,6 @@
 // The number of an answer, and the value that it carries.
+#![tactic(auto)]
+
 ghost use Rattle.std.specs.Prelude.{◌≡◌, cond, ◌≤◌};
 ghost use Rattle.solve_answer.specs.Calls.{count_number, placed_number, drawn_number, placing_number};
 ghost use Rattle.counter.specs.Checks.{measured_number, cycle_number, tidied_number, table_number};

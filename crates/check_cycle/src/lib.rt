@@ -1,4 +1,6 @@
 // The check of a cycle: do the bytes spell a simple hypernormal cycle of the sheet?
+#![tactic(auto)]
+
 mod edge;
 mod place;
 

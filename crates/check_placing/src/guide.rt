@@ -23,7 +23,7 @@ use solve_reduce::reduced::{WIDE, add, reduce};
 use solve_reduce::settle::settle;
 
 // The edge that leads into a half.
-#[derive(Drop)]
+#[derive(Clone, Copy)]
 pub struct Edge {
     pub leaf: usize,
     pub root: usize,

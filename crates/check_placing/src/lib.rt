@@ -1,4 +1,6 @@
 // The check of a placing: solved form, configuration, reading.
+#![tactic(auto)]
+
 ghost use Rattle.std.specs.Prelude.{ℕ, ◌≤◌, length, take};
 ghost use Rattle.graph.specs.Graph.{Graph};
 ghost use Rattle.base_tables.specs.Trees.{Parents};
@@ -14,7 +16,7 @@ use solve_closure::placing_rows;
 mod guide;
 mod shape;
 
-#[derive(Drop)]
+#[derive(Clone, Copy)]
 pub struct Answers {
     pub solved: bool,
     pub configuration: bool,

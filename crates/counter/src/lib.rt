@@ -1,4 +1,6 @@
 // The calls that are open to callers. Nothing is asked of what is lent: each call tests its own input.
+#![tactic(auto)]
+
 ghost use Rattle.std.specs.Prelude.{◌≡◌};
 ghost use Rattle.format.specs.Sheet.{outcome_of, outcome};
 ghost use Rattle.format.specs.declared.Form.TheVariants.{Labelled};
@@ -25,27 +27,27 @@ use solve_answer::{
 use solve_term::term_of;
 
 // The listing's place: the number of the last reading handed out, 0 at the start.
-#[derive(Drop)]
+#[derive(Clone, Copy)]
 pub struct Place {
     pub number: usize,
 }
 
 // A reading call's answer, and the place moved on.
-#[derive(Drop)]
+#[derive(Clone, Copy)]
 pub struct Next {
     pub answer: Placed,
     pub place: Place,
 }
 
 // How many nodes a sheet's graph has.
-#[derive(Drop)]
+#[derive(Clone, Copy)]
 pub enum Measured {
     Nodes(usize),
     Refused(Refusal),
 }
 
 // The answer to the check of a cycle.
-#[derive(Drop)]
+#[derive(Clone, Copy)]
 pub enum CycleChecked {
     Answer(bool),
     Refused(Refusal),

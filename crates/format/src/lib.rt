@@ -1,4 +1,6 @@
 // The bytes that come in and the text that goes out: what the definitions under specs/ speak of, and the refusals.
+#![tactic(auto)]
+
 ghost use Rattle.std.specs.Prelude.{◌≡◌};
 ghost use Rattle.format.specs.Refusal.{number};
 
@@ -7,7 +9,7 @@ pub const LONGEST: usize = 2048;
 
 // The refusals of document 01, "Who can cause which refusal", and of document 02; `number` of specs/Refusal.antt gives the number of
 // each.
-#[derive(Drop)]
+#[derive(Clone, Copy)]
 pub enum Refusal {
     Missing,
     Command,
@@ -26,7 +28,7 @@ pub enum Refusal {
 }
 
 // The forms of a sheet: what differs is which commands are in place.
-#[derive(Drop)]
+#[derive(Clone, Copy)]
 pub enum Form {
     Plain,
     Labelled,

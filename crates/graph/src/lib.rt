@@ -1,4 +1,5 @@
 // What the definitions under specs/ speak of; no code.
+#![tactic(auto)]
 
 // No node: what stands for the parent of a root, and in a placing for the top.
 pub const NONE: u8 = 255;
@@ -12,14 +13,14 @@ pub const DOMINANCE: u8 = 3;
 pub const LAST: usize = 65535;
 
 // The count: exact up to 65,535, and otherwise "more".
-#[derive(Drop)]
+#[derive(Clone, Copy)]
 pub enum Count {
     Exactly(usize),
     More,
 }
 
 // One record of the fragment table.
-#[derive(Drop)]
+#[derive(Clone, Copy)]
 pub struct Fragment {
     pub root: u8,
     pub lowest_leaf: u8,

@@ -1,5 +1,7 @@
 // Prints the list of the readings of the sheet on standard input, as document 01's "The printed list" has it. What decides stands
 // in `show_input` and `show_list`: this reads, calls and writes.
+#![tactic(auto)]
+
 ghost use Rattle.graph.specs.Graph as graph;
 ghost use Rattle.show_input.specs.Input.{Ready};
 

@@ -5,7 +5,7 @@ ghost use Rattle.sheet_commands.specs.Step.{byte_of, command_of, placed, operand
 
 use format::{Form, Refusal};
 
-#[derive(Drop)]
+#[derive(Clone, Copy)]
 pub enum Step {
     Nodes(u8),
     Tree(u8, u8),
@@ -17,13 +17,13 @@ pub enum Step {
 }
 
 // A command, and the offset past it.
-#[derive(Drop)]
+#[derive(Clone, Copy)]
 pub struct Passed {
     pub step: Step,
     pub at: usize,
 }
 
-#[derive(Drop)]
+#[derive(Clone, Copy)]
 enum Byte {
     Read(u8),
     Refused(Refusal),

@@ -5,7 +5,7 @@ ghost use Rattle.sheet_commands.specs.Reader.{taken_by};
 use crate::command::{Step, pass};
 use format::Form;
 
-#[derive(Drop)]
+#[derive(Clone, Copy)]
 pub struct Reader<'a> {
     pub sheet: &'a [u8],
     pub at: usize,
@@ -13,7 +13,7 @@ pub struct Reader<'a> {
 }
 
 // A command, and the reader moved on.
-#[derive(Drop)]
+#[derive(Clone, Copy)]
 pub struct Taken<'a> {
     pub step: Step,
     pub reader: Reader<'a>,

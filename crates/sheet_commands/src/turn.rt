@@ -11,7 +11,7 @@ use graph::NONE;
 const MOST_EDGES: usize = 255;
 
 // The commands up to some offset: the number of nodes and of dominance edges, or the refusal.
-#[derive(Drop)]
+#[derive(Clone, Copy)]
 pub enum Run {
     Going(usize, usize),
     Ended(usize, usize),

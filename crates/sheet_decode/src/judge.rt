@@ -19,7 +19,7 @@ use sheet_labels::fit::{holed, mislabelled, overlapping};
 use sheet_labels::gather::labels_of;
 use sheet_labels::table::Labels;
 
-#[derive(Drop)]
+#[derive(Clone, Copy)]
 pub enum Verdict {
     Accepted,
     Refused(Refusal),

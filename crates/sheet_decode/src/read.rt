@@ -11,7 +11,7 @@ use sheet_commands::run::commands;
 use sheet_commands::turn::Run;
 use sheet_grow::grow;
 
-#[derive(Drop)]
+#[derive(Clone, Copy)]
 pub enum Decoded {
     // The number of nodes and of dominance edges.
     Filled(usize, usize),

@@ -1,4 +1,6 @@
 // Tidying: the sheet that writes the same, with its commands in the tidy order.
+#![tactic(auto)]
+
 ghost use Rattle.std.specs.Prelude.{◌≡◌, ◌+◌, ◌≤◌, ◌<◌, [], ◌∷◌, length};
 ghost use Rattle.std.proofs.lemmas.List.Edits.{sets};
 ghost use Rattle.base_finite.specs.Below.{count};
@@ -14,7 +16,7 @@ use graph::NONE;
 use sheet_decode::judge::Verdict;
 use sheet_decode::read::read_written;
 
-#[derive(Drop)]
+#[derive(Clone, Copy)]
 pub enum Tidied {
     // How many bytes were filled.
     Length(usize),

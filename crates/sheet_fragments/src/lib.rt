@@ -1,4 +1,6 @@
 // The fragment table of a sheet.
+#![tactic(auto)]
+
 pub mod records;
 
 ghost use Rattle.std.specs.Prelude.{◌≡◌, ◌+◌, ◌*◌, ◌≤◌, ◌<◌, length};
@@ -16,7 +18,7 @@ use format::Refusal;
 use sheet_decode::judge::Verdict;
 use sheet_decode::read::read;
 
-#[derive(Drop)]
+#[derive(Clone, Copy)]
 pub enum Table {
     // The number of fragments.
     Filled(usize),

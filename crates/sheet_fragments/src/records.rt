@@ -8,7 +8,7 @@ use format::Refusal;
 use graph::Fragment;
 
 // The answer, and how many records go into the table. Three bytes a record; no sheet has more fragments than nodes.
-#[derive(Drop)]
+#[derive(Clone, Copy)]
 pub struct Records {
     pub answer: Table,
     pub count: usize,

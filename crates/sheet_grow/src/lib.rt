@@ -1,4 +1,6 @@
 // One-word fragments: a node without tree edges gets a leaf.
+#![tactic(auto)]
+
 ghost use Rattle.std.specs.Prelude.{◌+◌, ◌≤◌};
 ghost use Rattle.base_finite.specs.Below.{count, select};
 ghost use Rattle.base_finite.specs.Stores.{Written};

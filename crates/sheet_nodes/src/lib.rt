@@ -1,4 +1,6 @@
 // What a labelled sheet says of its nodes, in a table: four bytes a node, its symbol and then its children, in the order of their commands.
+#![tactic(auto)]
+
 ghost use Rattle.std.specs.Prelude.{◌≡◌, true, List, ◌∷◌, ◌<◌, length};
 ghost use Rattle.base_nodeset.specs.declared.NodeSet.{NodeSet};
 ghost use Rattle.graph.specs.Graph.{Edge};

@@ -1,4 +1,6 @@
 // The drawing of a placing: each fragment writes its leaves in turn, and each leaf the fragments hung under it.
+#![tactic(auto)]
+
 ghost use Rattle.std.specs.Prelude.{◌≡◌, ◌+◌, ◌≤◌, ◌<◌, [], ◌∷◌, ◌&&◌, eqb, length, take};
 ghost use Rattle.base_finite.specs.Stores.{Written};
 ghost use Rattle.graph.specs.Graph.{none};
@@ -32,7 +34,7 @@ fn fill_homes(parent: &[u8], n: usize, inner: NodeSet, homes: &mut [u8])
 }
 
 // Where the next byte goes, and how many fragments are not yet drawn.
-#[derive(Drop)]
+#[derive(Clone, Copy)]
 struct Pen {
     at: usize,
     left: usize,

@@ -1,4 +1,6 @@
 // What the input of a run comes to: a refusal's line, or what the list of its readings begins from.
+#![tactic(auto)]
+
 ghost use Rattle.std.specs.Prelude.{suc, ◌≤◌, length, take};
 ghost use Rattle.format.specs.Sheet.{Content, longest, outcome, accepted};
 ghost use Rattle.base_tables.specs.Tables.{Tables, SheetTables};

@@ -1,5 +1,7 @@
 // The pages of a list: the first has line 1, each further one lines of readings. What decides stands here and in `show_input`, so
 // that a program only reads, calls and writes.
+#![tactic(auto)]
+
 ghost use Rattle.std.specs.Prelude.{◌≡◌, true, false, ◌||◌, ltb, ◌≤◌, ◌<◌, min, length};
 ghost use Rattle.graph.specs.Graph as graph;
 ghost use Rattle.graph.specs.Order.{limit, count_answer};

@@ -1,4 +1,6 @@
 // The lines of readings whose placings stand one after the other, a page at a time.
+#![tactic(auto)]
+
 ghost use Rattle.std.specs.Prelude.{◌≤◌, ◌<◌, length};
 ghost use Rattle.graph.specs.Order.{limit};
 ghost use Rattle.base_finite.specs.Stores.{Written};
@@ -8,7 +10,7 @@ use base_tables::trees::Trees;
 use base_text::{LINE, reading_line};
 
 // How many bytes the page has, and the number of its last reading.
-#[derive(Drop)]
+#[derive(Clone, Copy)]
 pub struct Lines {
     pub bytes: usize,
     pub last: usize,

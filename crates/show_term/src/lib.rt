@@ -1,4 +1,6 @@
 // The term of a solved form: each labelled node writes its symbol and its children in turn, and each hole the roots that it carries.
+#![tactic(auto)]
+
 ghost use Rattle.std.specs.Prelude.{◌≡◌, ◌≤◌, ◌<◌, [], ◌∷◌, ◌++◌, cond, eqb, length, take};
 ghost use Rattle.base_finite.specs.Stores.{Written};
 ghost use Rattle.graph.specs.Graph.{none};
@@ -46,7 +48,7 @@ fn next(above: &[u8], v: u8, from: usize) -> usize
 }
 
 // A child's place: the node that it is of, and how many come before it.
-#[derive(Drop)]
+#[derive(Clone, Copy)]
 struct Place {
     of: usize,
     number: usize,
@@ -82,14 +84,14 @@ fn open_pair(at: usize, out: &mut [u8]) -> usize
 }
 
 // Where the next byte goes, and how deep nodes may still stand.
-#[derive(Drop)]
+#[derive(Clone, Copy)]
 struct Pen {
     at: usize,
     depth: usize,
 }
 
 // The nodes from `from` on that stand directly below a node; below no node they are on top.
-#[derive(Drop)]
+#[derive(Clone, Copy)]
 struct Roots {
     under: u8,
     from: usize,

@@ -1,5 +1,7 @@
 // The calls on the tables of a well-formed sheet: of each node its parent, of each leaf the roots that its dominance edges
 // go to. The refusals come in document 01's order: 10, 9, 11.
+#![tactic(auto)]
+
 ghost use Rattle.std.specs.Prelude.{◌≡◌, ◌*◌, ◌≤◌, length};
 ghost use Rattle.base_tables.specs.Tables.{SheetTables};
 ghost use Rattle.solve_answer.specs.Calls.{Counts, StretchCall, ConfigurationCall, Seeks, DrawingCall, PlacingCall};
@@ -18,14 +20,14 @@ use solve_stretch::stretch;
 const DRAWING: usize = 1024;
 
 // The answer to the count.
-#[derive(Drop)]
+#[derive(Clone, Copy)]
 pub enum Counted {
     Readings(Count),
     Refused(Refusal),
 }
 
 // The answer to a reading or a configuration. Where no reading exists the cycle of so many pairs fills the buffer.
-#[derive(Drop)]
+#[derive(Clone, Copy)]
 pub enum Placed {
     Done,
     NoReading(usize),
@@ -33,21 +35,21 @@ pub enum Placed {
 }
 
 // Whether there is a reading with the number wanted.
-#[derive(Drop)]
+#[derive(Clone, Copy)]
 pub enum Sought {
     Found,
     Refused(Refusal),
 }
 
 // The answer to a text of a reading, its drawing or its term: the length.
-#[derive(Drop)]
+#[derive(Clone, Copy)]
 pub enum Drawn {
     Length(usize),
     Refused(Refusal),
 }
 
 // The answer to the check of a placing: solved form, configuration, reading.
-#[derive(Drop)]
+#[derive(Clone, Copy)]
 pub enum PlacingChecked {
     Answers(Answers),
     Refused(Refusal),
@@ -68,14 +70,14 @@ pub fn count_of(parent: &[u8], heads_low: &[u64], heads_high: &[u64], n: usize) 
 }
 
 // What a call hands out: the readings after the first `passed`, as many as fit into the first `room` bytes lent.
-#[derive(Drop)]
+#[derive(Clone, Copy)]
 pub struct Wanted {
     pub passed: usize,
     pub room: usize,
 }
 
 // The answer, and the number of the last reading handed out so far.
-#[derive(Drop)]
+#[derive(Clone, Copy)]
 pub struct Handed {
     pub answer: Placed,
     pub last: usize,

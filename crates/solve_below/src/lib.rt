@@ -1,5 +1,7 @@
 // What stands below a root. A reduced form has the rows of the leaves alone: below a root are the nodes of its fragment, and
 // what is below its leaves.
+#![tactic(auto)]
+
 ghost use Rattle.std.specs.Prelude.{◌≡◌, true, ℕ, ◌+◌, ◌*◌, ◌≤◌, ◌<◌, length, get_or};
 ghost use Rattle.base_nodeset.specs.Set.{mem};
 ghost use Rattle.graph.specs.Graph.{Graph, root, own};

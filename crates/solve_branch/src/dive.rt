@@ -20,7 +20,7 @@ use solve_levels::{LEVELS, Level, back_to, down, slot};
 use solve_reduce::choose::{Fork, choose};
 use solve_reduce::reduced::width;
 
-#[derive(Drop)]
+#[derive(Clone, Copy)]
 pub enum Dived {
     To(Level),
     Stuck(Level),

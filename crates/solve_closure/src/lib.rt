@@ -1,6 +1,8 @@
 // The closure of a graph's or a placing's edges as rows: of each node the set of nodes under it, in a lent table of 128 sets.
 // The rows get the edges first, and are then filled by the descent walk. What an edge adds to closed rows is found in one pass over
 // one column of them (`rising`) and one over the rows that it extends (`join`).
+#![tactic(auto)]
+
 ghost use Rattle.std.specs.Prelude.{◌≡◌, true, false, ◌&&◌, List, ℕ, ◌+◌, ◌*◌, ◌≤◌, ◌<◌, ltb, length, get_or, take};
 ghost use Rattle.base_finite.specs.Below.{any};
 ghost use Rattle.base_nodeset.specs.Set.{bit, mem};

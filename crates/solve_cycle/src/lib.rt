@@ -1,5 +1,7 @@
 // A simple hypernormal cycle for a graph without a solved form: its edges are thinned out to a minimal set without one; any
 // edge of that set closes a simple path over the others.
+#![tactic(auto)]
+
 mod minimal;
 mod search;
 

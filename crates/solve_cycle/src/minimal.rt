@@ -14,7 +14,7 @@ use solve_closure::graph_rows;
 use solve_test::solvable;
 
 // A dominance edge.
-#[derive(Drop)]
+#[derive(Clone, Copy)]
 pub struct Edge {
     pub leaf: usize,
     pub root: usize,

@@ -12,7 +12,7 @@ use base_tables::trees::tied;
 use graph::NONE;
 
 // How far a search of n nodes has got: the place in the queue that it goes on from, and the number found.
-#[derive(Drop)]
+#[derive(Clone, Copy)]
 struct Turn {
     n: usize,
     from: usize,

@@ -1,4 +1,6 @@
 // Down from a level to its next reading: by untested halves and, where that leads to no reading, back by halves that are tested.
+#![tactic(auto)]
+
 ghost use Rattle.std.specs.Prelude.{◌≡◌, true, ◌↔◌, ℕ, ◌*◌, ◌%◌, ◌≤◌, ◌<◌, length};
 ghost use Rattle.graph.specs.Graph.{Graph, own};
 ghost use Rattle.graph.specs.Placing.{Solvable};

@@ -1,4 +1,6 @@
 // The descent walk: what lies under a node, by a loop over a list of the nodes still to visit. Rows are filled by it.
+#![tactic(auto)]
+
 ghost use Rattle.std.specs.Prelude.{◌≡◌, true, ◌≤◌, ◌<◌, length};
 ghost use Rattle.base_nodeset.specs.Set.{mem};
 ghost use Rattle.graph.specs.Graph.{Path};
@@ -9,7 +11,7 @@ use base_nodeset::{NodeSet, Popped};
 use base_tables::sets::{put_at, set_at};
 
 // The way down from a node: the first `depth` places of a lent table have its nodes, and `seen` those that have been on it.
-#[derive(Drop)]
+#[derive(Clone, Copy)]
 struct Way {
     depth: usize,
     seen: NodeSet,

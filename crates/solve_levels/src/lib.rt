@@ -1,6 +1,8 @@
 // The stack of states. One level deeper is a copy of the last with an edge more, and going back is free. In the second half of a
 // choice the walk does not come back to the level above, so that the edge is added there. Where the walk goes back further than the
 // levels kept, its decisions are replayed from the outset.
+#![tactic(auto)]
+
 ghost use Rattle.std.specs.Prelude.{◌≡◌, List, true, ◌⊎◌, ℕ, ◌+◌, ◌*◌, ◌%◌, ◌≤◌, ◌<◌, length};
 ghost use Rattle.graph.specs.Graph.{Graph, Descent, root, own};
 ghost use Rattle.theory_forest.specs.Shape.{Shaped};
@@ -32,7 +34,7 @@ pub const SMALL: usize = 32;
 pub const SMALL_STACK: usize = 2244;
 
 // How many decisions are taken, how many of them are first halves, and the lowest such number whose level is kept.
-#[derive(Drop)]
+#[derive(Clone, Copy)]
 pub struct Level {
     pub depth: usize,
     pub open: usize,

@@ -1,4 +1,6 @@
 // The readings of a graph that has some, by their numbers: how many there are, and the one with a number.
+#![tactic(auto)]
+
 ghost use Rattle.std.specs.Prelude.{◌≡◌, ◌%◌, ◌≤◌, length, take, drop};
 ghost use Rattle.graph.specs.Graph.{Graph};
 ghost use Rattle.graph.specs.Order.{count_answer};
@@ -25,7 +27,7 @@ pub const TRAIL: usize = 32768;
 pub const SMALL_TRAIL: usize = 2048;
 
 // Where the walk is at a reading, or how many readings there are.
-#[derive(Drop)]
+#[derive(Clone, Copy)]
 pub enum Reached {
     At(Level),
     Only(usize),

@@ -7,7 +7,7 @@ ghost use Rattle.solve_reduce.specs.Chosen.{Bounded, Chosen};
 use crate::forks::second_lowest;
 use base_tables::sets::set_at;
 
-#[derive(Drop)]
+#[derive(Clone, Copy)]
 pub enum Fork {
     None,
     At(usize, usize, usize),

@@ -1,4 +1,6 @@
 // A graph's reduced form, kept in a table: Rule 2, the choice of Rule 3, and the placing where no choice is left.
+#![tactic(auto)]
+
 pub mod choose;
 mod forks;
 mod heads;

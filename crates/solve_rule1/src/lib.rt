@@ -1,4 +1,6 @@
 // Rule 1: from a solved form to a configuration.
+#![tactic(auto)]
+
 ghost use Rattle.std.specs.Prelude.{◌≡◌, true, cond, ◌≤◌, ◌<◌, eqb, length, take};
 ghost use Rattle.base_finite.specs.Below.{any, least};
 ghost use Rattle.base_nodeset.specs.Set.{mem};

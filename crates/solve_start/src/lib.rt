@@ -1,5 +1,7 @@
 // What every walk needs of a sheet's graph: the rows of its descent relation, the root of each node, the leaves and the
 // roots; and whether there is anything to walk through.
+#![tactic(auto)]
+
 ghost use Rattle.std.specs.Prelude.{◌≡◌, ◌≤◌, length};
 ghost use Rattle.base_tables.specs.Sets.{Long};
 ghost use Rattle.base_tables.specs.Tables.{SheetTables};
@@ -9,7 +11,7 @@ use base_tables::trees::{Trees, owners, read_trees};
 use solve_closure::graph_rows;
 use solve_test::solvable;
 
-#[derive(Drop)]
+#[derive(Clone, Copy)]
 pub struct Start {
     pub solvable: bool,
     pub trees: Trees,

@@ -1,4 +1,6 @@
 // Readings one after the other, as many as there are and as fit, in one walk.
+#![tactic(auto)]
+
 ghost use Rattle.std.specs.Prelude.{◌≡◌, true, ◌++◌, ◌+◌, ◌%◌, ◌≤◌, ◌<◌, length, take, drop};
 ghost use Rattle.graph.specs.Graph.{Graph};
 ghost use Rattle.graph.specs.Order.{limit};
@@ -18,7 +20,7 @@ use solve_numbered::{Reached, SMALL_TRAIL, TRAIL, reach, read_off};
 use solve_walk::steps::{Moved, next};
 
 // How many readings are passed, whether more follow, and where the walk is at the next.
-#[derive(Drop)]
+#[derive(Clone, Copy)]
 pub struct Stop {
     pub last: usize,
     pub more: bool,

@@ -1,4 +1,6 @@
 // A reading of a labelled sheet as a term: 10, 9, 11, or its text.
+#![tactic(auto)]
+
 ghost use Rattle.solve_answer.specs.Calls.{TermCall};
 ghost use Rattle.solve_term.specs.Meant.{Meant};
 

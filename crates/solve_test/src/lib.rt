@@ -1,5 +1,7 @@
 // Whether a graph has a solved form, by its trees and the rows of its descent relation: free fragments are taken out of the
 // set of all until none is left.
+#![tactic(auto)]
+
 mod free;
 mod tables;
 

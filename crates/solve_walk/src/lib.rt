@@ -1,2 +1,4 @@
 // The walk through a solvable graph's readings, in order.
+#![tactic(auto)]
+
 pub mod steps;

@@ -15,7 +15,7 @@ use solve_branch::dive::{Dived, back, dead, turn};
 use solve_descend::descend;
 use solve_levels::{Level, start};
 
-#[derive(Drop)]
+#[derive(Clone, Copy)]
 pub enum Moved {
     To(Level),
     End,

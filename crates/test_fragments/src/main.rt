@@ -1,5 +1,7 @@
 // Lends records to `counter::fragments`, and the bytes of as many to `counter::fragment_table`, and compares what they store. A
 // sheet of the input comes with its length, two bytes, before it. It is lent 64 records, just enough, and one too few.
+#![tactic(auto)]
+
 ghost use Rattle.std.specs.Prelude.{◌≡◌, ◌≤◌, ◌<◌, length, take, drop};
 ghost use Rattle.format.specs.Sheet.{outcome};
 ghost use Rattle.sheet_fragments.specs.Records.{Recorded};
@@ -12,7 +14,7 @@ use libc::STDOUT_FILENO;
 use sheet_fragments::Table;
 
 // The answer, and all of the table afterwards.
-#[derive(Drop)]
+#[derive(Clone, Copy)]
 struct Lent {
     answer: Table,
     table: [Fragment; 64],

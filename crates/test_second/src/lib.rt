@@ -1,6 +1,8 @@
 // A second solver, to test the first against. It goes by free fragments from the top down: a connected set of fragments has a
 // free fragment on top, and each component of the rest hangs under the one leaf that leads into it. The sheets that it is given
 // are well-formed.
+#![tactic(auto)]
+
 mod agenda;
 mod build;
 mod free;
@@ -19,7 +21,7 @@ use ways::{MORE, product};
 
 // How many nodes a sheet has, added leaves counted, how many dominance edges and how many readings. Readings are 0 where there is no
 // solved form, and 65,536 where there are more than 65,535.
-#[derive(Drop)]
+#[derive(Clone, Copy)]
 pub struct Size {
     pub nodes: usize,
     pub edges: usize,
@@ -27,7 +29,7 @@ pub struct Size {
 }
 
 // How many nodes, dominance edges and fragments there are.
-#[derive(Drop)]
+#[derive(Clone, Copy)]
 struct Graph {
     n: usize,
     edges: usize,

@@ -1,5 +1,7 @@
 // Tidies each sheet of the input, tells its number of nodes and tabulates its fragments; a sheet that is refused goes to every other
 // call as well. A sheet comes with its length, two bytes, before it.
+#![tactic(auto)]
+
 mod calls;
 
 ghost use Rattle.std.specs.Prelude.{◌≤◌, ◌<◌, length};

@@ -1,6 +1,8 @@
 // Takes the well-formed sheets of its input through the public calls, each against the second solver: the cases of documents 01 and
 // 02, the chains of Section 9 of document 000, and generated ones. A mismatch is a sheet with an answer that is not what the documents
 // and the second solver say.
+#![tactic(auto)]
+
 mod answers;
 mod lines;
 mod refused;
@@ -12,7 +14,7 @@ use lines::{case, summary};
 use test_second::table::byte;
 use trial::{Found, trial};
 
-#[derive(Drop)]
+#[derive(Clone, Copy)]
 pub struct Sums {
     pub sheets: usize,
     pub refused: usize,

@@ -17,7 +17,7 @@ fn limit(n: usize) -> usize {
     if rows < LISTED { rows } else { LISTED }
 }
 
-#[derive(Drop)]
+#[derive(Clone, Copy)]
 pub struct Found {
     pub readings: usize,
     pub right: bool,

@@ -1,1 +1,2 @@
 // The starred cases of document 01, proved of the definitions; no code.
+#![tactic(auto)]

@@ -51,7 +51,7 @@ pub record Opened (g : Graph) (D : ℕ → ℕ → Type 0) : Type 0 where
   pub connected : Connected (TreeOr g (Among others)) to from
 
 opened_ring : (g : Graph) (D : ℕ → ℕ → Type 0) {x : ℕ} {c : Colour} {l : List ℕ} → Way (Joined (own g) D) x c x c l → x ∈ l → Opened g D
-opened_ring g D stop m = absurd (Memᴰ.not_nil m)
+opened_ring g D stop m = absurd (Memᴰ.not-nil m)
 opened_ring g D {x} {c} (step {o = o} {n = n} {i = i} {l = l} d h f w) m =
     let k : ℕ = h.0 in
     let r : ℕ = h.1 in

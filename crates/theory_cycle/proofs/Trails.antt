@@ -27,7 +27,7 @@ Simple E u v = (l : List ℕ) × Trail E u v l × (v ∉ l)
 
 -- from a node that the trail leaves
 shortened : {E : ℕ → ℕ → Type 0} {u v w : ℕ} {l : List ℕ} → Trail E u v l → v ∉ l → w ∈ l → Simple E w v
-shortened here f m = absurd (Memᴰ.not_nil m)
+shortened here f m = absurd (Memᴰ.not-nil m)
 shortened {E} {w = w} (along {u = u} {w = v} {l = l} n e t) f m =
     ⊎_elim
     (λ (i : w ≡ u). subst (λ (x : ℕ). Simple E x v) (sym i) (u ∷ l, along n e t, f))
@@ -38,14 +38,14 @@ shortened {E} {w = w} (along {u = u} {w = v} {l = l} n e t) f m =
 before : {E : ℕ → ℕ → Type 0} {u v w : ℕ} → EitherWay E w u → Simple E u v → Simple E w v
 before {E} {u} {v} {w} e (l, t, f) =
     dite (ℕ_discrete w v)
-    (λ (i : w ≡ v). subst (λ (x : ℕ). Simple E w x) i ([], here, Memᴰ.not_nil))
+    (λ (i : w ≡ v). subst (λ (x : ℕ). Simple E w x) i ([], here, Memᴰ.not-nil))
     (λ d.
     dite (is_passed w l)
     (λ m. shortened t f m)
     (λ n. (w ∷ l, along n e t, λ m. ⊎_elim (λ (i : v ≡ w). d (sym i)) f (Memᴰ.cases_cons m))))
 
 pub simple_trail : {E : ℕ → ℕ → Type 0} {u v : ℕ} → Connected E u v → Simple E v u
-simple_trail same = ([], here, Memᴰ.not_nil)
+simple_trail same = ([], here, Memᴰ.not-nil)
 simple_trail (forth c e) = before (inr e) (simple_trail c)
 simple_trail (back c e) = before (inl e) (simple_trail c)
 

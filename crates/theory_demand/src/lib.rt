@@ -1,1 +1,2 @@
 // The third demand as one theorem over the promises; no code.
+#![tactic(auto)]

@@ -1,1 +1,2 @@
 // The theorems on descent, forests and fragments; no code.
+#![tactic(auto)]

@@ -1,1 +1,2 @@
 // The theorems on the layout of sheets; no code.
+#![tactic(auto)]

@@ -1,1 +1,2 @@
 // The theorems on the list of readings; no code.
+#![tactic(auto)]

@@ -1,1 +1,2 @@
 // Theorem 6.2, from cycle to refusal; no code.
+#![tactic(auto)]

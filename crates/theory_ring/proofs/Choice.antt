@@ -47,7 +47,7 @@ through {Hop} {p} {s} {v = v} {t = t} sy only f h w m =
 pub loop : {Hop : Hops} {x y : ℕ} (a : ℕ) → Hop x (out a) y (into a) → y ≡ x → Ring Hop
 loop {Hop} {x} {y} a h e =
     let round : Hop x (out a) x (into a) = rw e at h in
-    ring (step out≢into round Memᴰ.not_nil stop) (Memᴰ.head refl)
+    ring (step out≢into round Memᴰ.not-nil stop) (Memᴰ.head refl)
 
 -- the two edges that a choice is made between
 pub record Fork (Hop : Hops) (A B v a b : ℕ) : Type 0 where

@@ -44,11 +44,11 @@ cut_here {x = x} {c = c} {o = o} {n = n} {i = i} {l = l} d h f w =
       hop = h;
       after = l;
       rest = w;
-      not_before = Memᴰ.not_nil;
+      not_before = Memᴰ.not-nil;
       not_after = f;
-      apart = λ u m. absurd (Memᴰ.not_nil m);
+      apart = λ u m. absurd (Memᴰ.not-nil m);
       at_passed = Memᴰ.head refl;
-      before_passed = λ u m. absurd (Memᴰ.not_nil m);
+      before_passed = λ u m. absurd (Memᴰ.not-nil m);
       after_passed = λ u m. Memᴰ.tail m;
     }
 
@@ -99,7 +99,7 @@ off_way P w = way_map (λ x c y z h. h.0) w
 -- and no fragment of it has P
 pub passes_none : {Hop : Hops} {P : ℕ → Type 0} {x : ℕ} {c : Colour} {y : ℕ} {z : Colour} {l : List ℕ}
     → Way (Off P Hop) x c y z l → (u : ℕ) → u ∈ l → P u → ⊥
-passes_none stop u m p = Memᴰ.not_nil m
+passes_none stop u m p = Memᴰ.not-nil m
 passes_none {P = P} (step {x = x} d h f w) u m p =
     ⊎_elim (λ (e : u ≡ x). h.1 (rw e at p)) (λ m. passes_none w u m p) (Memᴰ.cases_cons m)
 

@@ -68,7 +68,7 @@ pub record Ring (Hop : Hops) : Type 0 where
 
 -- a way from x that leaves a fragment leaves x
 start_passed : {Hop : Hops} {x : ℕ} {c : Colour} {y : ℕ} {z : Colour} {l : List ℕ} {u : ℕ} → Way Hop x c y z l → u ∈ l → x ∈ l
-start_passed stop m = absurd (Memᴰ.not_nil m)
+start_passed stop m = absurd (Memᴰ.not-nil m)
 start_passed (step d h f w) m = Memᴰ.head refl
 
 -- the ring of a way that leaves a fragment and comes back to where it started
@@ -85,7 +85,7 @@ start_or_end stop = inr refl
 start_or_end (step d h f w) = inl (Memᴰ.head refl)
 
 pub is_passed : (u : ℕ) (l : List ℕ) → Dec (u ∈ l)
-is_passed u [] = no Memᴰ.not_nil
+is_passed u [] = no Memᴰ.not-nil
 is_passed u (x ∷ l) =
     dite (ℕ_discrete u x)
     (λ e. yes (Memᴰ.head e))
@@ -130,13 +130,13 @@ back_step {x = x} {o = o} {n = n} {y = y} {l = l} d h f g s b =
       colour = o;
       differs = d;
       passed = b.passed ++ (n ∷ []);
-      way = append b.way (step (λ e. b.differs (sym e)) h Memᴰ.not_nil stop) (λ u m k. b.fresh (Memᴰ.cast (sym (Memᴰ.eq_of_singleton k)) m));
+      way = append b.way (step (λ e. b.differs (sym e)) h Memᴰ.not-nil stop) (λ u m k. b.fresh (Memᴰ.cast (sym (Memᴰ.eq_of_singleton k)) m));
       within = λ u m. ⊎_elim (λ (q : u ∈ l). inl (Memᴰ.tail q)) inr (inner u m);
       fresh = λ m. ⊎_elim f g (inner x m);
     }
 
 pub back : {Hop : Hops} → Symmetric Hop → {x : ℕ} {c : Colour} {y : ℕ} {z z' : Colour} {l : List ℕ} → Way Hop x c y z l → y ∉ l
     → z' ≢ z → Back Hop x c y z' l
-back sy {z' = z'} stop g d = record { colour = z'; differs = d; passed = []; way = stop; within = λ u m. absurd (Memᴰ.not_nil m); fresh = Memᴰ.not_nil }
+back sy {z' = z'} stop g d = record { colour = z'; differs = d; passed = []; way = stop; within = λ u m. absurd (Memᴰ.not-nil m); fresh = Memᴰ.not-nil }
 back sy (step {x = x} {o = o} {n = n} {i = i} d h f w) g e =
     back_step d (sy x o n i h) f (λ q. g (Memᴰ.head (sym q))) (start_or_end w) (back sy w (λ m. g (Memᴰ.tail m)) e)

@@ -1,1 +1,2 @@
 // The theorems on rings of coloured hops; no code.
+#![tactic(auto)]

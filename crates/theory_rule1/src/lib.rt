@@ -1,1 +1,2 @@
 // The theorems on Rule 1; no code.
+#![tactic(auto)]

@@ -1,1 +1,2 @@
 // The theorems on free fragments; no code.
+#![tactic(auto)]

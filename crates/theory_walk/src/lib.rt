@@ -1,1 +1,2 @@
 // The theorems on the walk through the readings; no code.
+#![tactic(auto)]
