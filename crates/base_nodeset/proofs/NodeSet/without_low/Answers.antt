@@ -1,0 +1,8 @@
+-- One bit of the low word: 1 << k loses nothing.
+use native.Mathlib.Omega.{arith}
+use Rattle.base_nodeset.proofs.Words.{shift_one}
+use Rattle.base_nodeset.proofs.Laws.{member_without_low}
+use Rattle.base_nodeset.proofs.NodeSet.without_low.Goals as goal
+
+pub returns : goal.returns
+returns c j = rw (shift_one 64 c.args.k (omega arith)) (member_without_low _ _ c.args.k j (omega arith))

@@ -1,0 +1,20 @@
+-- By the two parents.
+use native.Mathlib.Omega.{arith}
+use Rattle.base_tables.proofs.Climbing.{tied_first, tied_second}
+use Rattle.base_tables.proofs.trees.tied.Goals as goal
+
+pub overflow_cast-parent : goal.overflow_cast-parent
+overflow_cast-parent c = omega (arith, c.type_inv.parent c.args.v)
+
+pub returns-then-parent-v : goal.returns-then-parent-v
+returns-then-parent-v c =
+    let a = c.args in
+    tied_first a.parent.now a.u a.v c.if-parent-v.true
+
+pub overflow_cast-result : goal.overflow_cast-result
+overflow_cast-result c = omega (arith, c.type_inv.parent c.args.u)
+
+pub returns : goal.returns
+returns c =
+    let a = c.args in
+    tied_second a.parent.now a.u a.v c.if-parent-v.false

@@ -1,0 +1,21 @@
+-- The sheet's refusal, or the answer of its tables.
+use mathlib.Core.Path.{refl}
+use Rattle.sheet_decode.proofs.Answers.{answered_refused}
+use Rattle.solve_start.proofs.Accepted.{sheet_of, tables_of}
+use Rattle.counter.proofs.Numbers.{placing_numbered}
+use Rattle.counter.proofs.check_placing.Goals as goal
+
+pub checked_placing-requires : goal.checked_placing-requires
+checked_placing-requires c =
+    let r = c.read-answer in
+    tables_of (sheet_of c.args.sheet.now r.result r.ensures c.in-Accepted.is)
+
+pub returns-in-Refused : goal.returns-in-Refused
+returns-in-Refused c = let parts = let r = c.read-answer in
+    rw (answered_refused c.args.sheet.now r.result _ r.ensures c.in-Refused.is) (refl, refl) in record { placing_of = parts.0; placing_numbered = parts.1 }
+
+pub returns-in-Accepted : goal.returns-in-Accepted
+returns-in-Accepted c = let parts = let r = c.read-answer in
+    let x = sheet_of c.args.sheet.now r.result r.ensures c.in-Accepted.is in
+    let called = c.checked_placing.ensures (tables_of x) in
+    rw x.is (called, placing_numbered x.content called) in record { placing_of = parts.0; placing_numbered = parts.1 }

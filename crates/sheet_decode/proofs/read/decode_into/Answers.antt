@@ -1,0 +1,12 @@
+-- A sheet that is too long, or what its commands come to.
+use native.Mathlib.Omega.{arith}
+use Rattle.theory_format.proofs.Length.{too_long, short_enough}
+use Rattle.sheet_decode.specs.Read.{Decodes}
+use Rattle.sheet_decode.proofs.read.decode_into.Goals as goal
+
+pub returns-then-sheet-gt-LONGEST : goal.returns-then-sheet-gt-LONGEST
+unfolding Decodes
+returns-then-sheet-gt-LONGEST c = too_long c.args.form c.args.sheet.now (omega (arith, c.if-sheet-gt-LONGEST.true))
+
+pub returns : goal.returns
+returns c = rw (short_enough c.args.form c.args.sheet.now (omega arith)) c.decode_commands.ensures

@@ -1,0 +1,28 @@
+use Prim.Native.Nat.{◌-◌}
+use mathlib.Core.Path.{sym, ◌∙◌}
+use mathlib.Core.Bool.{false}
+use native.Mathlib.Omega.{arith}
+use borrow.Author.Count.{below_none, below_more}
+use Rattle.base_finite.proofs.Laws.{any_at, any_none}
+use Rattle.base_tables.specs.Sets.{in_row}
+use Rattle.solve_closure.proofs.cyclic.Goals as goal
+
+pub loop-u-init : goal.loop-u-init
+loop-u-init c = (omega arith, below_none _)
+
+pub returns-then-in_row : goal.returns-then-in_row
+returns-then-in_row c =
+    let a = c.args in
+    sym (any_at a.n (λ u. in_row a.rows.now u u) c.loop-u.u (omega arith) (sym c.in_row.ensures ∙ c.if-in_row.true))
+
+pub loop-u-preserved : goal.loop-u-preserved
+loop-u-preserved c = (
+  omega arith,
+  below_more _ _ c.loop-u.invariant.1 (sym c.in_row.ensures ∙ c.if-in_row.false),
+)
+
+pub returns : goal.returns
+returns c =
+    let a = c.args in
+    let l = c.loop-u in
+    sym (any_none a.n (λ u. in_row a.rows.now u u) (λ k h. l.invariant.1 k (omega arith)))

@@ -1,0 +1,14 @@
+-- The test of the leaves decides.
+use Rattle.base_tables.specs.Sets.{in_row}
+use Rattle.solve_test.proofs.Rounds.{taken_out, not_taken}
+use Rattle.solve_test.proofs.free.take_out.Goals as goal
+
+pub returns-then-apart : goal.returns-then-apart
+returns-then-apart c =
+    let a = c.args in
+    taken_out _ _ (in_row a.leaf.now) a.rem c.without-others.result c.set_at-leaves.result a.f c.apart.result c.without-others.ensures c.set_at-leaves.ensures c.apart.ensures c.if-apart.true
+
+pub returns-else-apart : goal.returns-else-apart
+returns-else-apart c =
+    let a = c.args in
+    not_taken _ _ (in_row a.leaf.now) a.rem c.without-others.result c.set_at-leaves.result a.f c.apart.result c.without-others.ensures c.set_at-leaves.ensures c.apart.ensures c.if-apart.false
