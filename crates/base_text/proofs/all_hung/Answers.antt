@@ -37,7 +37,7 @@ loop-r-preserved c =
     let a = c.args in
     let h = c.hung-end in
     let first = c.pop.ensures.lowest _ _ c.in-Member.is in (
-      h.auto.1.1.0 ∙ l.invariant.0,
+      h.auto.out ∙ l.invariant.0,
       omega (arith, hung_first_length a.placing.now first a.n (omega arith), h.ensures.after),
       λ new e w. l.invariant.2 new e (rw (hung_first a.placing.now first a.n (omega arith)) (written_more _ _ _ _ _ _ _ _ h.ensures w)),
     )

@@ -1,5 +1,5 @@
 -- Nothing for a root on top; otherwise a blank, the root, a colon and the leaf, one after the other.
-use mathlib.Core.List.{◌∷◌}
+use mathlib.Core.List.{[], ◌∷◌}
 use native.Mathlib.Omega.{arith}
 use lib.ListN.{length-set}
 use Rattle.base_finite.proofs.Stores.{written_none, written_one, written_more, written_length}
@@ -11,8 +11,7 @@ returns-then-leaf-eq-NONE c = rw (pair_top c.args.leaf c.args.r c.if-leaf-eq-NON
 
 pub bounds-out-at : goal.bounds-out-at
 bounds-out-at c =
-    let e = c in
-    let long = pair_length e.before.before.args.leaf e.before.before.args.r e.if1.false in
+    let long = pair_length c.args.leaf c.args.r c.if-leaf-eq-NONE.false in
     omega (arith, long)
 
 pub small-colon-requires : goal.small-colon-requires
@@ -24,19 +23,19 @@ pub bounds-out-colon : goal.bounds-out-colon
 bounds-out-colon c =
     let long = pair_length c.args.leaf c.args.r c.if-leaf-eq-NONE.false in
     let d = c.small-colon in
-    omega (arith, long, d.ensures.after, rw length-set at d.auto.1.0)
+    omega (arith, long, d.ensures.after, rw length-set at d.auto.out)
 
 pub overflow_add-colon : goal.overflow_add-colon
 overflow_add-colon c =
     let long = pair_length c.args.leaf c.args.r c.if-leaf-eq-NONE.false in
     let d = c.small-colon in
-    omega (arith, long, d.ensures.after, rw length-set at d.auto.1.0)
+    omega (arith, long, d.ensures.after, rw length-set at d.auto.out)
 
 pub small-requires : goal.small-requires
 small-requires c =
     let long = pair_length c.args.leaf c.args.r c.if-leaf-eq-NONE.false in
     let d = c.small-colon in
-    (omega arith, rw length-set (omega (arith, long, d.ensures.after, rw length-set at d.auto.1.0)))
+    (omega arith, rw length-set (omega (arith, long, d.ensures.after, rw length-set at d.auto.out)))
 
 pub returns : goal.returns
 returns c =
@@ -44,4 +43,4 @@ returns c =
     (written_more _ _ (32 ∷ []) _ _ _ _ _ (written_one _ _ _) (written_more _ _ _ _ _ _ _ _ c.small-colon.ensures (written_more _ _ (58 ∷ []) _ _ _ _ _ (written_one _ _ _) c.small.ensures)))
 
 pub shape_of-out : goal.shape_of-out
-shape_of-out c = written_length _ _ _ _ _ (returns-2 c)
+shape_of-out c = written_length _ _ _ _ _ (returns c)

@@ -11,21 +11,21 @@ pub decimal-end-requires : goal.decimal-end-requires
 decimal-end-requires c =
     let a = c.args in
     let w = c.put-after_word in
-    omega (arith, number_line_length a.word.now a.k, w.ensures.after, w.auto.1.0)
+    omega (arith, number_line_length a.word.now a.k, w.ensures.after, w.auto.out)
 
 pub bounds-out-end : goal.bounds-out-end
 bounds-out-end c =
     let a = c.args in
     let w = c.put-after_word in
     let d = c.decimal-end in
-    omega (arith, number_line_length a.word.now a.k, w.ensures.after, w.auto.1.0, d.ensures.after, d.auto.1.0)
+    omega (arith, number_line_length a.word.now a.k, w.ensures.after, w.auto.out, d.ensures.after, d.auto.out)
 
 pub overflow_add-result : goal.overflow_add-result
 overflow_add-result c =
     let a = c.args in
     let w = c.put-after_word in
     let d = c.decimal-end in
-    omega (arith, number_line_length a.word.now a.k, w.ensures.after, w.auto.1.0, d.ensures.after, d.auto.1.0)
+    omega (arith, number_line_length a.word.now a.k, w.ensures.after, w.auto.out, d.ensures.after, d.auto.out)
 
 pub returns : goal.returns
 returns c =

@@ -15,7 +15,7 @@ all_hung-end-requires c =
     let a = c.args in
     let short = reading_short a.roots a.n a.placing.now a.k c.requires.0 (λ v. (c.type_inv.placing v).fits) in
     let d = c.decimal-after_number in
-    (omega arith, omega (arith, short, d.ensures.after, d.auto.1.0))
+    (omega arith, omega (arith, short, d.ensures.after, d.auto.out))
 
 pub bounds-out-end : goal.bounds-out-end
 bounds-out-end c =
@@ -23,7 +23,7 @@ bounds-out-end c =
     let short = reading_short a.roots a.n a.placing.now a.k c.requires.0 (λ v. (c.type_inv.placing v).fits) in
     let d = c.decimal-after_number in
     let h = c.all_hung-end in
-    omega (arith, short, d.ensures.after, d.auto.1.0, h.ensures.after, h.auto.1.1.1.0)
+    omega (arith, short, d.ensures.after, d.auto.out, h.ensures.after, h.auto.out)
 
 pub overflow_add-result : goal.overflow_add-result
 overflow_add-result c =

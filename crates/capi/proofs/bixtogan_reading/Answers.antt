@@ -5,4 +5,4 @@ pub returns : goal.returns
 returns c =
     let next = c.next-next in
     let put = (c.put_next.ensures.value, c.put_next.ensures.place_after, c.put_next.ensures.pairs_after) in
-    record { answer = next.result.answer; call = rw put.1.0 next.ensures.0; number = put.0; value = put.1.1 }
+    record { answer = next.result.answer; call = rw put.1.0 next.ensures.reading_of; number = put.0; value = put.1.1 }

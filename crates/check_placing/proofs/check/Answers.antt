@@ -15,15 +15,15 @@ returns-then-not-is_placing c =
     let r = c.read_trees-trees in
     let is = c.is_placing in
     λ g edges t.
-    let e = r.ensures.1 g (well_formed_shaped t.well_formed) (tree_of t) in
-    noes_answered g _ c.noes.result c.noes.ensures (not_placing r.result r.ensures.0.1 a.placing.now c.requires.2 e (sym is.ensures ∙ not_true is.result c.if-not-is_placing.true))
+    let e = r.ensures.trees_of g (well_formed_shaped t.well_formed) (tree_of t) in
+    noes_answered g _ c.noes.result c.noes.ensures (not_placing r.result r.ensures.bounded.1 a.placing.now c.requires.2 e (sym is.ensures ∙ not_true is.result c.if-not-is_placing.true))
 
 pub placing_rows-requires : goal.placing_rows-requires
 placing_rows-requires c =
     let a = c.args in
     let r = c.read_trees-trees in
     let is = c.is_placing in
-    (c.requires.0, links_here r.result r.ensures.0.1 a.placing.now c.requires.2 (sym is.ensures ∙ not_false is.result c.if-not-is_placing.false), search rules)
+    (c.requires.0, links_here r.result r.ensures.bounded.1 a.placing.now c.requires.2 (sym is.ensures ∙ not_false is.result c.if-not-is_placing.false), search rules)
 
 pub returns-then-not-solved : goal.returns-then-not-solved
 returns-then-not-solved c =
@@ -32,8 +32,8 @@ returns-then-not-solved c =
     let is = c.is_placing in
     let all = c.solved in
     λ g edges t.
-    let e = r.ensures.1 g (well_formed_shaped t.well_formed) (tree_of t) in
-    let placed = placed_here r.result r.ensures.0.1 a.placing.now c.requires.2 e (sym is.ensures ∙ not_false is.result c.if-not-is_placing.false) in
+    let e = r.ensures.trees_of g (well_formed_shaped t.well_formed) (tree_of t) in
+    let placed = placed_here r.result r.ensures.bounded.1 a.placing.now c.requires.2 e (sym is.ensures ∙ not_false is.result c.if-not-is_placing.false) in
     let rows = c.placing_rows.ensures g _ _ edges t placed in
     noes_answered g _ c.noes-then-not-solved.result c.noes-then-not-solved.ensures (not_solved t rows placed (sym all.ensures ∙ not_true all.result c.if-not-solved.true))
 
@@ -50,9 +50,9 @@ returns c =
     let all = c.solved in
     λ g edges t.
     let s = well_formed_shaped t.well_formed in
-    let e = r.ensures.1 g s (tree_of t) in
-    let placed = placed_here r.result r.ensures.0.1 a.placing.now c.requires.2 e (sym is.ensures ∙ not_false is.result c.if-not-is_placing.false) in
+    let e = r.ensures.trees_of g s (tree_of t) in
+    let placed = placed_here r.result r.ensures.bounded.1 a.placing.now c.requires.2 e (sym is.ensures ∙ not_false is.result c.if-not-is_placing.false) in
     let rows = c.placing_rows.ensures g _ _ edges t placed in
     let f = is_solved t rows placed (sym all.ensures ∙ not_false all.result c.if-not-solved.false) in
-    let reads = reads_here r.result r.ensures.0.1 a.placing.now c.reading.result (λ tables under. c.reading.ensures g edges tables e under) t rows f in
+    let reads = reads_here r.result r.ensures.bounded.1 a.placing.now c.reading.result (λ tables under. c.reading.ensures g edges tables e under) t rows f in
     yes_answered g a.n s t.nodes a.placing.now placed f c.single.result c.reading.result c.single.ensures reads

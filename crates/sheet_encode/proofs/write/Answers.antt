@@ -63,7 +63,7 @@ write_dominance-end-requires c =
       held_few a.n a.parent.now a.low.now a.high.now a.edges tables,
       held_low a.n a.parent.now a.low.now a.high.now a.edges tables,
       held_high a.n a.parent.now a.low.now a.high.now a.edges tables,
-      omega (arith, t.ensures.after, c.tree_edges.ensures, held_length a.n a.parent.now a.low.now a.high.now a.edges tables, held_parts a.n a.parent.now a.low.now a.high.now a.edges tables, simp length-set at t.auto.1.1.0),
+      omega (arith, t.ensures.after, c.tree_edges.ensures, held_length a.n a.parent.now a.low.now a.high.now a.edges tables, held_parts a.n a.parent.now a.low.now a.high.now a.edges tables, simp length-set at t.auto.out),
     )
 
 pub bounds-out-end : goal.bounds-out-end
@@ -72,7 +72,7 @@ bounds-out-end c =
     let tables = c.requires in
     let t = c.write_tree-after_tree in
     let d = c.write_dominance-end in
-    omega (arith, t.ensures.after, d.ensures.after, c.tree_edges.ensures, held_length a.n a.parent.now a.low.now a.high.now a.edges tables, held_parts a.n a.parent.now a.low.now a.high.now a.edges tables, simp length-set at t.auto.1.1.0, d.auto.1.1.1.0)
+    omega (arith, t.ensures.after, d.ensures.after, c.tree_edges.ensures, held_length a.n a.parent.now a.low.now a.high.now a.edges tables, held_parts a.n a.parent.now a.low.now a.high.now a.edges tables, simp length-set at t.auto.out, d.auto.out)
 
 pub shape_of-out : goal.shape_of-out
 shape_of-out c =
@@ -80,7 +80,7 @@ shape_of-out c =
     let tables = c.requires in
     let t = c.write_tree-after_tree in
     let d = c.write_dominance-end in
-    simp length-set (d.auto.1.1.1.0 ∙ (simp length-set at t.auto.1.1.0))
+    simp length-set (d.auto.out ∙ (simp length-set at t.auto.out))
 
 pub returns : goal.returns
 returns c h =

@@ -24,7 +24,7 @@ loop-l-preserved c =
     let l = c.loop-l in
     let k = c.write_row-at in (
       omega arith,
-      k.auto.1.1.0 ∙ l.invariant.1,
+      k.auto.out ∙ l.invariant.1,
       rw (dominance_part_more l.l c.args.low.now c.args.high.now _ c.set_at.ensures) (written_more _ _ _ l.out l.at _ _ _ l.invariant.2 k.ensures),
     )
 

@@ -23,7 +23,7 @@ loop-c-preserved c =
     let l = c.loop-c in
     let k = c.put_tree-at in (
       omega arith,
-      k.auto.0 ∙ l.invariant.1,
+      k.auto.out ∙ l.invariant.1,
       rw tree_part_more (written_more _ _ _ l.out l.at _ _ _ l.invariant.2 k.ensures),
     )
 

@@ -30,8 +30,8 @@ loop-r-preserved c =
     let a = c.args in
     let p = c.put-at in (
       omega arith,
-      omega (arith, p.ensures.0, records_longer a.n a.owner.now a.inner a.roots l.r),
-      stored_more a.n a.owner.now a.inner a.roots a.out.now l.out _ l.r l.at l.invariant.1 l.invariant.2 p.ensures.1,
+      omega (arith, p.ensures.value, records_longer a.n a.owner.now a.inner a.roots l.r),
+      stored_more a.n a.owner.now a.inner a.roots a.out.now l.out _ l.r l.at l.invariant.1 l.invariant.2 p.ensures.out_after,
     )
 
 pub shape_of-out : goal.shape_of-out

@@ -1,7 +1,7 @@
 -- The loop draws a run with nothing before its first text; whether bytes are written tells whether a text is the first. It
 -- draws as many fragments as there are.
 use Prim.Native.Nat.{◌-◌}
-use mathlib.Core.List.{◌∷◌}
+use mathlib.Core.List.{[], ◌∷◌}
 use Rattle.show_drawing.specs.Drawn.{fragment_in, size_in, top_at}
 use Rattle.show_drawing.proofs.Loops.{Running}
 use Rattle.show_drawing.proofs.tops.Given as goal

@@ -59,7 +59,7 @@ returns-then-out-end-lt-LINE c = let l = c.loop-k in
     let w = c.reading_line-end in record {
       bytes_in_bounds = (search rules, omega (arith, c.loop-k-test.true), omega (arith, l.invariant.0), λ _. omega (arith, l.invariant.0));
       written = λ s.
-          line_written s (omega (arith, l.invariant.0)) c.args.done _ _ c.requires.n_bound.1 l.invariant.0.1 c.loop-k-test.true l.invariant.1 _ _ _ _ _ w.ensures.0
+          line_written s (omega (arith, l.invariant.0)) c.args.done _ _ c.requires.n_bound.1 l.invariant.0.1 c.loop-k-test.true l.invariant.1 _ _ _ _ _ w.ensures.written
           (l.invariant.4 s);
     }
 
@@ -75,7 +75,7 @@ loop-k-preserved c =
       search rules,
       search rules,
       λ s.
-          line_written s (omega (arith, l.invariant.0)) c.args.done _ _ c.requires.n_bound.1 l.invariant.0.1 c.loop-k-test.true l.invariant.1 _ _ _ _ _ w.ensures.0
+          line_written s (omega (arith, l.invariant.0)) c.args.done _ _ c.requires.n_bound.1 l.invariant.0.1 c.loop-k-test.true l.invariant.1 _ _ _ _ _ w.ensures.written
           (l.invariant.4 s),
     )
 

@@ -1,5 +1,5 @@
 -- The symbol, and then the bracket.
-use mathlib.Core.List.{◌∷◌}
+use mathlib.Core.List.{[], ◌∷◌}
 use native.Mathlib.Omega.{arith}
 use Rattle.format.specs.Text.{decimal}
 use Rattle.show_term.proofs.Texts.{in_parts, first_room, second_room, both_written}

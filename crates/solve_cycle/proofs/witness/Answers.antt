@@ -82,7 +82,7 @@ minimize-requires c =
     let t = c.read_trees-trees in
     let k = c.copy_rows in
     let few = small c in
-    (known (tables_parents c.requires.0.tables) t.ensures.0.0 t.ensures.0.1 t.ensures.1 c.owners.ensures (search rules), (ap length k.ensures.0 ∙ h.low_long, ap length k.ensures.1 ∙ h.high_long))
+    (known (tables_parents c.requires.0.tables) t.ensures.bounded.0 t.ensures.bounded.1 t.ensures.trees_of c.owners.ensures (search rules), (ap length k.ensures.0 ∙ h.low_long, ap length k.ensures.1 ∙ h.high_long))
 
 pub first_leaf-leaf-requires : goal.first_leaf-leaf-requires
 first_leaf-leaf-requires c = (long c, small c)

@@ -55,10 +55,10 @@ loop-depth-preserved c =
     let row = c.under-row in
     let put = c.put_at.ensures in
     let down = c.down-end.ensures in (
-      row.ensures.1.listed.long ∙ l.invariant.0,
+      row.ensures.walked.listed.long ∙ l.invariant.0,
       down.long ∙ l.invariant.1,
       put.long ∙ l.invariant.2,
-      fills_more l.invariant.3 (fills_row l.rows l.filled l.invariant.3.is_whole _ row.result row.ensures.0 _ put c.with-filled.result c.with-filled.ensures),
+      fills_more l.invariant.3 (fills_row l.rows l.filled l.invariant.3.is_whole _ row.result row.ensures.under _ put c.with-filled.result c.with-filled.ensures),
       underway_more _ _ _ _ _ c.loop-depth.invariant.4 c.loop-depth-test.true _ _ _ c.down-end.ensures c.with-filled.result c.with-filled.ensures,
     )
 

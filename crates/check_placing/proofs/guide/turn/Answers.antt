@@ -36,6 +36,6 @@ returns c =
     let b = found_bounds c.in-At.is c.choose.ensures.bounded in
     λ g p k st.
     let pick = chosen_choice st.graph (c.choose.ensures.chosen st.graph st.given) c.in-At.is in (
-      λ e. turned st _ _ _ next.result pick (next.ensures.1 st.graph _ p _ st.fits b.1 b.2 st.under_is pick st.solved) (λ h fits free new before. c.add.ensures h fits free new (c.below-lower.ensures h fits.shaped fits.trees (fragments_own h c.args.fragment.now fits c.requires.fragments) before.under new.to_root) before),
+      λ e. turned st _ _ _ next.result pick (next.ensures.half_of st.graph _ p _ st.fits b.1 b.2 st.under_is pick st.solved) (λ h fits free new before. c.add.ensures h fits free new (c.below-lower.ensures h fits.shaped fits.trees (fragments_own h c.args.fragment.now fits c.requires.fragments) before.under new.to_root) before),
       λ e. absurd (true≢false e),
     )

@@ -20,7 +20,7 @@ pub loop-l-preserved : goal.loop-l-preserved
 loop-l-preserved c =
     let l = c.loop-l in
     let k = c.settle_row in
-    (omega arith, (k.auto.1.1.1.0 ∙ l.invariant.1.0, k.auto.1.1.1.1.0 ∙ l.invariant.1.1), λ u. k.ensures u.graph (l.invariant.2 u))
+    (omega arith, (k.auto.low ∙ l.invariant.1.0, k.auto.high ∙ l.invariant.1.1), λ u. k.ensures u.graph (l.invariant.2 u))
 
 pub shape_of-low : goal.shape_of-low
 shape_of-low c = c.loop-l.invariant.1.0 ∙ sym c.requires.1.0

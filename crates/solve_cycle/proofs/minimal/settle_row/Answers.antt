@@ -30,7 +30,7 @@ loop-r-preserved c =
     let a = c.args in
     let l = c.loop-r in
     let k = c.settle in (
-      (k.auto.1.1.1.0 ∙ l.invariant.0.0, k.auto.1.1.1.1.0 ∙ l.invariant.0.1),
+      (k.auto.low ∙ l.invariant.0.0, k.auto.high ∙ l.invariant.0.1),
       λ g t.
           row_more g a.trees.n a.parent.now k.new.1.1.1.0 k.new.1.1.1.1.0 a.l l.left _ _ (c.pop.ensures.lowest _ _ c.in-Member.is).others
           (k.ensures g (row_settled a.l l.left) (l.invariant.1 g t)),
