@@ -3,20 +3,16 @@ use Prim.Native.Nat.{ℕ, suc, ◌+◌, ◌-◌, ◌≤◌, ◌<◌}
 use mathlib.Core.Path.{◌≡◌, refl, sym, ap, ◌∙◌, subst}
 use mathlib.Core.List.{List, [], ◌∷◌}
 use mathlib.Core.Bool.{true, false, ◌&&◌}
-use mathlib.Core.Logic.{⊎_elim}
 use native.Mathlib.Omega.{arith}
 use native.Mathlib.Nat.{zero-add}
 use lib.Dec.{eqb, leb}
 use lib.ListN.{length, drop, length-drop}
 use lib.Seq.{drop-drop}
 use borrow.Author.Tests.{eqb-true, leb-true, ne_eqb}
-use types.Run.{OneOf}
-use denote.Enum.Declared.{tag_of}
 use Rattle.base_finite.proofs.Laws.{by_bool, and_both}
 use Rattle.format.specs.Sheet.{Labels, unlabelled, refused, commands, all_commands}
 use Rattle.format.specs.declared.Form.{Form}
 use Rattle.format.specs.declared.Refusal.TheVariants.{Command, Range}
-use Rattle.sheet_commands.specs.contracts.turn.Run.{the_type}
 use Rattle.sheet_commands.proofs.Steps.{step_width, commands_step, gathered_step, gathered_form}
 use Rattle.sheet_commands.specs.Step.{byte_of, placed, command_of, operands_of, step_of, step_at, width_of, passed_at}
 use Rattle.sheet_commands.specs.Labels.{gathered, gathered_after, labels_in}
@@ -68,7 +64,7 @@ same_form form s m bs e = sym (gathered_form m bs) ∙ ap (λ (l : Labels). l.fo
 
 -- a later one: after a turn the run is further on, and fewer bytes are left to it
 module _ (form : Form) (s : List ℕ) (at n k : ℕ) (parents low high : List ℕ) (w : Running form s at (Going n k) parents low high) (x : Run) (parents' low' high' : List ℕ) where
-  abbrev Further : Passed → Type 0
+  abbrev pub Further : Passed → Type 0
   Further p = Running form s p.at x parents' low' high' × (left_of s p.at x < suc (length s - at))
 
   past_on : (y : Run) → Past (width_of (step_at form s at)) y → Past (at + width_of (step_at form s at)) y
@@ -102,10 +98,10 @@ module _ (form : Form) (s : List ℕ) (at n k : ℕ) (parents low high : List �
 
 -- it is over
 abbrev pub Over : Run → Type 0
-Over x = OneOf (1 ∷ 2 ∷ []) (tag_of the_type x)
+Over x = (n k : ℕ) → x ≡ Going n k → ⊥
 
 pub ran : (form : Form) (s : List ℕ) (at : ℕ) (x : Run) (parents low high : List ℕ) → Running form s at x parents low high → Over x → Ran form s x parents low high
 unfolding Ran Reached
-ran form s at (Going n k) parents low high w o = absurd (⊎_elim (λ q. omega arith) (λ q. omega arith) o)
+ran form s at (Going n k) parents low high w o = absurd (o n k refl)
 ran form s at (Ended n k) parents low high w o = w.reached
 ran form s at (Refused why) parents low high w o = w.reached

@@ -2,15 +2,12 @@
 -- the edge put in holds one edge more, or, where it held the edge, the same.
 use Prim.Native.Nat.{ℕ, ◌+◌, ◌≤◌, ◌<◌}
 use mathlib.Core.Path.{◌≡◌, refl, sym, ◌∙◌}
-use mathlib.Core.List.{List, [], ◌∷◌}
+use mathlib.Core.List.{List, ◌∷◌}
 use mathlib.Core.Bool.{true, false, not, ◌||◌, ◌&&◌}
-use mathlib.Core.Logic.{⊎_elim}
 use native.Mathlib.Numerals.{add-one}
 use native.Mathlib.Omega.{arith}
 use lib.Dec.{eqb, leb}
 use lib.ListN.{length, get_or, set}
-use types.Run.{OneOf}
-use denote.Enum.Declared.{tag_of}
 use borrow.Author.Tests.{le-leb, lt-leb, leb-false, eqb-true}
 use Rattle.base_nodeset.specs.Set.{Inserted}
 use Rattle.base_nodeset.specs.declared.NodeSet.{NodeSet}
@@ -18,11 +15,11 @@ use Rattle.base_tables.specs.Rows.{in_row, IsRow, RowPut}
 use Rattle.base_finite.proofs.Laws.{by_bool, or_right, or_none, eqb_sym}
 use Rattle.graph.specs.Graph.{Edge, among, different, entered, none}
 use Rattle.format.specs.Sheet.{Labels, labelling, differing, beyond}
+use Rattle.format.specs.declared.Refusal.{Refusal}
 use Rattle.format.specs.declared.Refusal.TheVariants.{Command, Range, Tree as TreeRefusal, TooMany}
 use Rattle.theory_edges.specs.Edges.{Within}
 use Rattle.theory_format.proofs.Spelling.{not_beyond}
 use Rattle.theory_edges.proofs.Edges.{within_more, adds_nothing}
-use Rattle.sheet_commands.specs.contracts.command.Step.{the_type}
 use Rattle.sheet_commands.specs.declared.command.Step.{Step}
 use Rattle.sheet_commands.specs.declared.command.Step.TheVariants.{Nodes, Tree, Dominance, Label, Differ, End, Refused as StepRefused}
 use Rattle.base_tables.specs.Tables.{Holds}
@@ -35,17 +32,17 @@ use Rattle.sheet_commands.specs.declared.turn.Run.TheVariants.{Going, Ended, Ref
 
 -- the first command
 
-pub stop_other : (x : Step) → OneOf (0 ∷ 1 ∷ 2 ∷ 3 ∷ 4 ∷ 5 ∷ []) (tag_of the_type x) → Refused Command ≡ stop_of x
+pub stop_other : (x : Step) → ((why : Refusal) → x ≡ StepRefused why → ⊥) → Refused Command ≡ stop_of x
 stop_other (Nodes n) o = refl
 stop_other (Tree p c) o = refl
 stop_other (Dominance l r) o = refl
 stop_other (Label p s) o = refl
 stop_other Differ o = refl
 stop_other End o = refl
-stop_other (StepRefused why) o = absurd (⊎_elim (λ q. omega arith) (⊎_elim (λ q. omega arith) (⊎_elim (λ q. omega arith) (⊎_elim (λ q. omega arith) (⊎_elim (λ q. omega arith) (λ q. omega arith))))) o)
+stop_other (StepRefused why) o = absurd (o why refl)
 
-pub stop_begun : (x : Step) → OneOf (1 ∷ 2 ∷ 3 ∷ 4 ∷ 5 ∷ 6 ∷ []) (tag_of the_type x) → stop_of x ≡ begun x
-stop_begun (Nodes n) o = absurd (⊎_elim (λ q. omega arith) (⊎_elim (λ q. omega arith) (⊎_elim (λ q. omega arith) (⊎_elim (λ q. omega arith) (⊎_elim (λ q. omega arith) (λ q. omega arith))))) o)
+pub stop_begun : (x : Step) → ((n : ℕ) → x ≡ Nodes n → ⊥) → stop_of x ≡ begun x
+stop_begun (Nodes n) o = absurd (o n refl)
 stop_begun (Tree p c) o = refl
 stop_begun (Dominance l r) o = refl
 stop_begun (Label p s) o = refl

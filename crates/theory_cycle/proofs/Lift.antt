@@ -2,7 +2,7 @@
 -- edges and by dominance edges of which at most one starts at each leaf, and none at l. So a graph with a ring has a
 -- simple hypernormal cycle.
 use Prim.Native.Nat.{ℕ}
-use mathlib.Core.Path.{◌≡◌, refl, subst₂}
+use mathlib.Core.Path.{◌≡◌, refl, sym, subst₂}
 use mathlib.Core.List.Memᴰ
 use mathlib.Core.List.{List}
 use mathlib.Core.Bool.{true}
@@ -50,9 +50,11 @@ pub record Opened (g : Graph) (D : ℕ → ℕ → Type 0) : Type 0 where
   pub thin : Thin (Elsewhere D from) others
   pub connected : Connected (TreeOr g (Among others)) to from
 
-opened_ring : (g : Graph) (D : ℕ → ℕ → Type 0) {x : ℕ} {c : Colour} {l : List ℕ} → Way (Joined (own g) D) x c x c l → x ∈ l → Opened g D
-opened_ring g D stop m = absurd (Memᴰ.not-nil m)
-opened_ring g D {x} {c} (step {o = o} {n = n} {i = i} {l = l} d h f w) m =
+-- the ends are two states, as those of a way are, and equal
+opened_way : (g : Graph) (D : ℕ → ℕ → Type 0) {x y : ℕ} {c b : Colour} {l : List ℕ} → Way (Joined (own g) D) x c y b l → x ≡ y → c ≡ b → x ∈ l → Opened g D
+opened_way g D stop p q m = absurd (Memᴰ.not-nil m)
+opened_way g D {x} {y} {c} {b} (step {o = o} {n = n} {i = i} {l = l} d h f back_way) p q m =
+    let w : Way (Joined (own g) D) n i x c l = subst₂ (λ (z : ℕ) (a : Colour). Way (Joined (own g) D) n i z a l) (sym p) (sym q) back_way in
     let k : ℕ = h.0 in
     let r : ℕ = h.1 in
     let t = thinned (own g) (Elsewhere D k) l (after_hop (own g) h f w f (λ e. d)) f in
@@ -63,6 +65,9 @@ opened_ring g D {x} {c} (step {o = o} {n = n} {i = i} {l = l} d h f w) m =
     (λ (e : Extra r (into k) (own g k) (out k) x o n i). connected_sym (subst₂ (Connected E) e.2 e.0 around))
     h.3 in
     record { from = k; to = r; edge = h.2; others = t.0; thin = t.1; connected = connected_trans back (own_connected g (Among t.0) k) }
+
+opened_ring : (g : Graph) (D : ℕ → ℕ → Type 0) {x : ℕ} {c : Colour} {l : List ℕ} → Way (Joined (own g) D) x c x c l → x ∈ l → Opened g D
+opened_ring g D w m = opened_way g D w refl refl m
 
 pub ring_opened : (g : Graph) (D : ℕ → ℕ → Type 0) → FragmentRing (own g) D → Opened g D
 ring_opened g D c = opened_ring g D c.way c.some_passed

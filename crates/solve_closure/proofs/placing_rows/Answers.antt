@@ -22,4 +22,4 @@ fill-requires c =
 
 pub returns : goal.returns
 returns c g lows highs edges t is_placing =
-    rows_map (placing_paths g t c.args.placing.now is-placing (both_added c.clear.ensures c.add_links.ensures c.add_links-2.ensures)) c.fill.ensures
+    rows_map (placing_paths g t c.args.placing.now is_placing (both_added c.clear.ensures c.add_links.ensures c.add_links-2.ensures)) c.fill.ensures

@@ -6,7 +6,7 @@ use Rattle.sheet_commands.proofs.Turns.{stop_begun}
 use Rattle.sheet_commands.proofs.turn.begin.Goals as goal
 
 pub returns-in_default : goal.returns-in_default
-returns-in_default c = c.stop.ensures ∙ stop_begun c.args.step c.in_default.in_default-own.keys2
+returns-in_default c = c.stop.ensures ∙ stop_begun c.args.step c.in_default.not-Nodes
 
 pub returns-then-n-lt1 : goal.returns-then-n-lt1
 returns-then-n-lt1 c = let b = c.in-Nodes.nodes in rw (c.in-Nodes.is, lt-leb 1 b (omega arith))

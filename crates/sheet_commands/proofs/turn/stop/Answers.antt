@@ -5,4 +5,4 @@ pub returns-in-Refused : goal.returns-in-Refused
 returns-in-Refused c = rw c.in-Refused.is
 
 pub returns-in_default : goal.returns-in_default
-returns-in_default c = stop_other c.args.step c.in_default.in_default-own.keys2
+returns-in_default c = stop_other c.args.step c.in_default.not-Refused

@@ -10,7 +10,7 @@ returns-in-Tree c =
       (λ t d m rest h.
           rw c.in-Tree.is
           (tree_turn a.n t d m rest a.parent.now a.low.now a.high.now a.edges (omega arith) h
-          c.in-Tree.p c.in-Tree.c _ _ edge.ensures.0 edge.ensures.1)),
+          c.in-Tree.p c.in-Tree.c _ _ edge.ensures.value edge.ensures.parents_after)),
       rw c.in-Tree.is (wide 3 edge.result (omega arith)),
     )
 
@@ -21,7 +21,7 @@ returns-in-Dominance c =
       (λ t d m rest h.
           rw c.in-Dominance.is
           (dominance_turn a.n t d m rest a.parent.now a.low.now a.high.now a.edges (omega arith) h
-          c.in-Dominance.l c.in-Dominance.r _ _ _ edge.auto.1.1.1.1.0 edge.auto.1.1.1.1.1.0 edge.ensures.0 edge.ensures.1)),
+          c.in-Dominance.l c.in-Dominance.r _ _ _ edge.auto.low edge.auto.high edge.ensures.value edge.ensures.heads_after)),
       rw c.in-Dominance.is (wide 3 edge.result (omega arith)),
     )
 
