@@ -19,6 +19,6 @@ eliminate-requires c = record { long = (c.requires.1, c.near_rows.ensures.long, 
 pub returns : goal.returns
 returns c g fits rows =
     answer_is g fits.shaped (in_row c.args.rows.now)
-    (in_row c.near_rows.new.1.1.0) (in_row c.leaf_rows.new.1.1.0)
+    (in_row c.near_rows.new.rows) (in_row c.leaf_rows.new.rows)
     c.args.trees.roots fits.trees.roots_are rows.closed rows.row_is c.near_rows.ensures.near_is
     (leaves_are c.requires.0.bounded fits c.leaf_rows.ensures) c.eliminate.result c.eliminate.ensures

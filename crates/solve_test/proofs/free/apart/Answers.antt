@@ -1,5 +1,5 @@
-use mathlib.Core.Path.{refl}
-use mathlib.Core.Bool.{false≢true}
+use mathlib.Core.Path.{refl, ap}
+use mathlib.Core.Bool.{not, false≢true}
 use native.Mathlib.Omega.{arith}
 use Rattle.base_nodeset.proofs.Members.{small_set, some_member, no_member, empty_set}
 use Rattle.solve_test.proofs.Rounds.{apart_start, not_apart, apart_last, apart_more, apart_end}
@@ -21,12 +21,12 @@ set_at-below-requires c =
 pub returns-then-not-is_empty : goal.returns-then-not-is_empty
 returns-then-not-is_empty c =
     let first = c.pop.ensures.lowest _ _ c.in-Member.is in
-    (λ h. absurd (false≢true h), λ a. absurd (not_apart _ _ _ _ _ _ c.loop-l.seen c.set_at-below.result c.intersection.result _ c.loop-l.invariant first c.set_at-below.ensures c.intersection.ensures (some_member _ _ c.is_empty.ensures c.if-not-is_empty.true) a))
+    (λ h. absurd (false≢true h), λ a. absurd (not_apart _ _ _ _ _ _ c.loop-l.seen c.set_at-below.result c.intersection.result _ c.loop-l.invariant first c.set_at-below.ensures c.intersection.ensures (some_member _ _ c.is_empty.ensures (ap not c.if-not-is_empty.true)) a))
 
 pub returns-then-is_empty : goal.returns-then-is_empty
 returns-then-is_empty c =
     let first = c.pop.ensures.lowest _ _ c.in-Member.is in (
-      λ h. apart_last _ _ c.args.within c.args.leaves _ _ c.loop-l.seen c.set_at-below.result c.intersection.result _ c.loop-l.invariant first c.set_at-below.ensures c.intersection.ensures c.requires.symmetric (small_set c.args.within (omega (arith, c.well_formed))) (no_member _ _ c.is_empty.ensures c.if-not-is_empty.false)
+      λ h. apart_last _ _ c.args.within c.args.leaves _ _ c.loop-l.seen c.set_at-below.result c.intersection.result _ c.loop-l.invariant first c.set_at-below.ensures c.intersection.ensures c.requires.symmetric (small_set c.args.within (omega (arith, c.well_formed))) (no_member _ _ c.is_empty.ensures (ap not c.if-not-is_empty.false))
           (small_set c.args.leaves (omega (arith, c.well_formed))) (empty_set _ _ c.is_empty-in-loop-l.ensures c.if-is_empty.true),
       λ a. refl,
     )
@@ -42,5 +42,5 @@ loop-l-smaller c =
 pub loop-l-preserved : goal.loop-l-preserved
 loop-l-preserved c =
     let first = c.pop.ensures.lowest _ _ c.in-Member.is in
-    apart_more _ _ c.args.within c.args.leaves _ _ c.loop-l.seen c.set_at-below.result c.intersection.result _ c.loop-l.invariant first c.set_at-below.ensures c.intersection.ensures c.requires.symmetric (small_set c.args.within (omega (arith, c.well_formed))) (no_member _ _ c.is_empty.ensures c.if-not-is_empty.false)
+    apart_more _ _ c.args.within c.args.leaves _ _ c.loop-l.seen c.set_at-below.result c.intersection.result _ c.loop-l.invariant first c.set_at-below.ensures c.intersection.ensures c.requires.symmetric (small_set c.args.within (omega (arith, c.well_formed))) (no_member _ _ c.is_empty.ensures (ap not c.if-not-is_empty.false))
     c.grow-joined.result c.union-seen.result c.grow-joined.ensures c.union-seen.ensures

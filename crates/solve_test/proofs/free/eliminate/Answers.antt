@@ -1,4 +1,5 @@
-use mathlib.Core.Path.{◌≡◌, sym, ◌∙◌}
+use mathlib.Core.Path.{◌≡◌, ap, sym, ◌∙◌}
+use mathlib.Core.Bool.{not}
 use native.Mathlib.Omega.{arith}
 use Rattle.base_finite.proofs.Laws.{any_found}
 use Rattle.base_finite.specs.Below.{count}
@@ -17,7 +18,7 @@ round-rest-requires c = record { long = c.requires.long; symmetric = c.requires.
 pub returns-then-count : goal.returns-then-count
 returns-then-count c = λ closed.
     let l = c.loop-rem in
-    let x = any_found 128 (mem l.rem) (some_member l.rem _ c.is_empty.ensures c.loop-rem-test.true) in
+    let x = any_found 128 (mem l.rem) (some_member l.rem _ c.is_empty.ensures (ap not c.loop-rem-test.true)) in
     let same : count 128 (mem c.round-rest.result) ≡ count 128 (mem l.rem) = sym c.count.ensures ∙ c.if-count.true ∙ c.count-in-loop-rem.ensures in
     (l.rem, l.invariant closed, (x.0, x.2), c.round-rest.ensures.or_stuck closed same)
 
@@ -28,4 +29,4 @@ pub loop-rem-preserved : goal.loop-rem-preserved
 loop-rem-preserved c = λ closed. taking_trans (c.loop-rem.invariant closed) (c.round-rest.ensures.taking closed)
 
 pub returns : goal.returns
-returns c = λ closed. (c.loop-rem.rem, c.loop-rem.invariant closed, no_member c.loop-rem.rem _ c.is_empty.ensures c.loop-rem-test.false)
+returns c = λ closed. (c.loop-rem.rem, c.loop-rem.invariant closed, no_member c.loop-rem.rem _ c.is_empty.ensures (ap not c.loop-rem-test.false))
