@@ -14,7 +14,8 @@ Group = namedtuple("Group", "text nodes")
 Import = namedtuple("Import", "local module name line")
 
 LEXEME = re.compile(r'(?:--|//).*|"(?:\\.|[^"\\])*"|«[^»]*»|[(){}.;,@]|[^\s(){}.;,@"«»]+')
-PATH = re.compile(r"Rattle·(\w+?)(?:·specs|·proofs)?\.((?:specs|proofs)\..+)")
+PATH = re.compile(r"Rattle\.(\w+)\.((?:specs|proofs)\..+)")
+PROOF = ("Invariants", "Answers", "Proof")  # the files of a function's proof, whose public names the check asks for
 MARKS = {"unfoldable", "abbrev", "pub", "axiom"}
 CLOSING = {"(": ")", "{": "}"}
 
@@ -279,7 +280,7 @@ class Definition:
 
     def __init__(self, file, name, line, kind, sections):
         self.file, self.name, self.line, self.kind, self.sections = file, name, line, kind, sections
-        self.type, self.clauses, self.members, self.unfolds, self.spelt = [], [], [], [], None
+        self.type, self.clauses, self.members, self.unfolds, self.spelt, self.public = [], [], [], [], None, False
 
     def __str__(self):
         return f"{self.file.crate}:{self.file.module}.{self.name}"
@@ -374,12 +375,13 @@ def telescope(nodes):
 
 
 class File:
-    """An .antt file: `crate`, `module` as `specs.Graph`, `imports`, `modules` under their local names, `definitions`, and in `loose`
+    """An .antt file: `crate`, `module` as `specs.Graph`, the `function` whose proof it is, `imports`, `modules` under their local names, `definitions`, and in `loose`
     the tokens that are no definition's."""
 
     def __init__(self, path, text):
         parts = path[:-5].split("/")
         self.path, self.crate, self.module = path, parts[1], ".".join(parts[2:])
+        self.function = ".".join(parts[3:-1]) if parts[-1] in PROOF else None
         self.imports, self.modules, self.definitions, self.passed = [], {}, {}, {}
         self.constructors, self.scope, self.outside, self.lines, self.loose = {}, {}, set(), set(), []
         self.text, self.tokens = text.split("\n"), tokens_of(text)
@@ -423,7 +425,7 @@ class File:
     def signed(self, rest, marks, sections):
         kind = next((mark for mark in marks if mark in ("abbrev", "unfoldable")), "lemma")
         made = self.define(rest[0].text, rest[0].line, kind, sections)
-        made.type = rest[index_of(rest, ":") + 1 :]
+        made.type, made.public = rest[index_of(rest, ":") + 1 :], "pub" in marks
         return made
 
     def declared(self, kind, rest, sections):
@@ -475,15 +477,15 @@ class File:
     def elsewhere(self, text):
         """A name that none of the files has; one that is generated is named by its module."""
         head, dot, rest = text.partition(".")
-        if dot and self.modules.get(head, "").startswith("Rattle·"):
+        if dot and self.modules.get(head, "").startswith("Rattle."):
             return f"{self.modules[head]}.{rest}"
-        generated = (brought for brought in self.imports if brought.local == text and brought.module.startswith("Rattle·"))
+        generated = (brought for brought in self.imports if brought.local == text and brought.module.startswith("Rattle."))
         return next((f"{brought.module}.{brought.name}" for brought in generated), text)
 
 
 def parts_of(name):
     """An operator's parts, by which it is mentioned as well as by its name."""
-    return [part for part in name.split("_") if part] if "_" in name and name != "_" else []
+    return [part for part in name.split("◌") if part] if "◌" in name else []
 
 
 class Crates:

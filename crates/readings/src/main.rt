@@ -2,14 +2,16 @@
 // in `show_input` and `show_list`: this reads, calls and writes.
 #![tactic(auto)]
 
+ghost use Rattle.std.specs.Prelude.{IfOk, ◌≤◌, length};
 ghost use Rattle.graph.specs.Graph as graph;
 ghost use Rattle.show_input.specs.Input.{Ready};
 
-use libc::STDOUT_FILENO;
 use show_input::{INPUT, Input, REFUSAL, read_input};
 use show_list::{first_page, next_page};
 use solve_levels::STACK;
 use solve_numbered::TRAIL;
+use std::io;
+use std::io::Read;
 
 // A list whose placings fit is walked through once.
 const PLACINGS: usize = 262144;
@@ -17,8 +19,23 @@ const PLACINGS: usize = 262144;
 // Lines are written so many bytes at a time.
 const PAGE: usize = 65536;
 
+// Reads until the place is full or the input ends, and tells how many bytes came.
+fn read_full(input: &mut impl Read, place: &mut [u8]) -> io::Result<usize>
+    ensures { IfOk result (λ got. got ≤ length place.new) }
+{
+    let mut got = 0;
+    while got < place.len() {
+        let more = input.read(&mut place[got..])?;
+        if more == 0 {
+            return Ok(got);
+        }
+        got += more;
+    }
+    Ok(got)
+}
+
 // The tables of a list are cleared here, and so for no refusal.
-fn list(input: Input)
+fn list(rt: &impl Print, input: Input) -> io::Result<()>
     requires { (g : graph.Graph) × Ready g input }
 {
     let mut states = [0u64; STACK];
@@ -27,23 +44,24 @@ fn list(input: Input)
     let mut out = [0u8; PAGE];
     let mut page = first_page(input, &mut states, &mut trail, &mut placings, &mut out);
     let first = page.bytes;
-    io::write_all(STDOUT_FILENO, &out[..first]);
+    rt.write_all(&out[..first])?;
     while page.more {
         page = next_page(page, &mut states, &mut trail, &mut placings, &mut out);
         let next = page.bytes;
-        io::write_all(STDOUT_FILENO, &out[..next]);
+        rt.write_all(&out[..next])?;
     }
+    Ok(())
 }
 
-fn main() {
+fn main(rt: HostRuntime) -> io::Result<()> {
     let mut bytes = [0u8; INPUT];
-    let got = io::read_full(0, &mut bytes);
+    let got = read_full(&mut rt.stdin(), &mut bytes)?;
     let mut line = [0u8; REFUSAL];
     let input = read_input(&bytes, got, &mut line);
     if input.refused {
         let end = input.bytes;
-        io::write_all(STDOUT_FILENO, &line[..end]);
+        rt.write_all(&line[..end])
     } else {
-        list(input);
+        list(&rt, input)
     }
 }

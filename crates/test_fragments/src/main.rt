@@ -2,7 +2,7 @@
 // sheet of the input comes with its length, two bytes, before it. It is lent 64 records, just enough, and one too few.
 #![tactic(auto)]
 
-ghost use Rattle.std.specs.Prelude.{◌≡◌, ◌≤◌, ◌<◌, length, take, drop};
+ghost use Rattle.std.specs.Prelude.{IfOk, ◌≡◌, ◌≤◌, ◌<◌, length, take, drop};
 ghost use Rattle.format.specs.Sheet.{outcome};
 ghost use Rattle.sheet_fragments.specs.Records.{Recorded};
 
@@ -10,8 +10,12 @@ use base_text::{hex_line, refused_line};
 use counter::{fragment_table, fragments};
 use format::{Refusal, number};
 use graph::Fragment;
-use libc::STDOUT_FILENO;
 use sheet_fragments::Table;
+use std::io;
+use std::io::Read;
+
+// No more of the input is read.
+const INPUT: u64 = 65536;
 
 // The answer, and all of the table afterwards.
 #[derive(Clone, Copy)]
@@ -85,36 +89,36 @@ fn same_answer(first: Table, second: Table) -> bool {
     refusal(first) == refusal(second) && stored(first) == stored(second)
 }
 
-fn print_refusal(why: Refusal) {
+fn print_refusal(rt: &impl Print, why: Refusal) -> io::Result<()> {
     let mut out = [0u8; 11];
     let end = refused_line(why, &mut out, 0);
-    io::write_all(STDOUT_FILENO, &out[..end]);
+    rt.write_all(&out[..end])
 }
 
-fn print_bytes(bytes: &[u8])
+fn print_bytes(rt: &impl Print, bytes: &[u8]) -> io::Result<()>
     requires { length bytes.now ≤ 192 }
 {
     let mut out = [0u8; 385];
     let end = hex_line(bytes, &mut out, 0);
-    io::write_all(STDOUT_FILENO, &out[..end]);
+    rt.write_all(&out[..end])
 }
 
-fn print_answer(answer: Table, records: &[u8])
+fn print_answer(rt: &impl Print, answer: Table, records: &[u8]) -> io::Result<()>
     requires { length records.now ≤ 192 }
 {
     match answer {
-        Table::Refused(why) => print_refusal(why),
+        Table::Refused(why) => print_refusal(rt, why),
         Table::Filled(_) => {
-            io::write_all(STDOUT_FILENO, b"records ");
-            print_bytes(records);
+            rt.write_all(b"records ")?;
+            print_bytes(rt, records)
         }
     }
 }
 
 // Prints the records that were stored, if they are the bytes that were stored, and no other was written. How many they are.
-fn print_table(sheet: &[u8], room: usize) -> usize
+fn print_table(rt: &impl Print, sheet: &[u8], room: usize) -> io::Result<usize>
     requires { room ≤ 64 }
-    ensures { result ≤ 64 }
+    ensures { IfOk result (λ fragments. fragments ≤ 64) }
 {
     let table = [unwritten(); 64];
     let lent = lend(sheet, table, room);
@@ -130,20 +134,21 @@ fn print_table(sheet: &[u8], room: usize) -> usize
             && same_from(&records, &bytes, 0)
             && same_from(&records, &before, 3 * fragments)
         {
-            print_answer(answer, &records[..3 * fragments]);
-            return fragments;
+            print_answer(rt, answer, &records[..3 * fragments])?;
+            return Ok(fragments);
         }
     }
-    io::write_all(STDOUT_FILENO, b"differs\n");
-    0
+    rt.write_all(b"differs\n")?;
+    Ok(0)
 }
 
-fn print_sheet(sheet: &[u8]) {
-    let fragments = print_table(sheet, 64);
-    print_table(sheet, fragments);
+fn print_sheet(rt: &impl Print, sheet: &[u8]) -> io::Result<()> {
+    let fragments = print_table(rt, sheet, 64)?;
+    print_table(rt, sheet, fragments)?;
     if 0 < fragments {
-        print_table(sheet, fragments - 1);
+        print_table(rt, sheet, fragments - 1)?;
     }
+    Ok(())
 }
 
 fn wide(byte: u8) -> usize
@@ -152,22 +157,23 @@ fn wide(byte: u8) -> usize
     byte as usize
 }
 
-fn print_sheets(input: &[u8]) {
+fn print_sheets(rt: &impl Print, input: &[u8]) -> io::Result<()> {
     let mut at = 0;
     while 2 <= input.len() - at {
         let bytes = wide(input[at]) * 256 + wide(input[at + 1]);
         let start = at + 2;
         if input.len() - start < bytes {
-            return;
+            return Ok(());
         }
         let end = start + bytes;
-        print_sheet(&input[start..end]);
+        print_sheet(rt, &input[start..end])?;
         at = end;
     }
+    Ok(())
 }
 
-fn main() {
-    let mut input = io::large_buffer();
-    let got = io::read_full(0, &mut input);
-    print_sheets(&input[..got]);
+fn main(rt: HostRuntime) -> io::Result<()> {
+    let mut input = Vec::new(rt.alloc());
+    rt.stdin().take(INPUT).read_to_end(&mut input)?;
+    print_sheets(&rt, &input)
 }

@@ -10,71 +10,73 @@ use base_text::{hex_line, refused_line};
 use calls::refused_calls;
 use counter::{Measured, fragment_table, nodes, tidy};
 use format::Refusal;
-use libc::STDOUT_FILENO;
 use sheet_encode::Tidied;
 use sheet_fragments::Table;
+use std::io;
+use std::io::Read;
 
-fn print_refusal(why: Refusal) {
+// No more of the input is read.
+const INPUT: u64 = 65536;
+
+fn print_refusal(rt: &impl Print, why: Refusal) -> io::Result<()> {
     let mut out = [0u8; 11];
     let end = refused_line(why, &mut out, 0);
-    io::write_all(STDOUT_FILENO, &out[..end]);
+    rt.write_all(&out[..end])
 }
 
-fn print_bytes(bytes: &[u8])
+fn print_bytes(rt: &impl Print, bytes: &[u8]) -> io::Result<()>
     requires { length bytes.now ≤ 2048 }
 {
     let mut out = [0u8; 4097];
     let end = hex_line(bytes, &mut out, 0);
-    io::write_all(STDOUT_FILENO, &out[..end]);
+    rt.write_all(&out[..end])
 }
 
-fn print_table(sheet: &[u8]) {
+fn print_table(rt: &impl Print, sheet: &[u8]) -> io::Result<()> {
     let mut out = [0u8; 192];
     match fragment_table(sheet, &mut out) {
-        Table::Refused(why) => print_refusal(why),
+        Table::Refused(why) => print_refusal(rt, why),
         Table::Filled(fragments) => {
             if fragments <= 64 {
-                io::write_all(STDOUT_FILENO, b"table ");
-                print_bytes(&out[..3 * fragments]);
+                rt.write_all(b"table ")?;
+                print_bytes(rt, &out[..3 * fragments])?;
             }
+            Ok(())
         }
     }
 }
 
-fn print_nodes(sheet: &[u8]) {
+fn print_nodes(rt: &impl Print, sheet: &[u8]) -> io::Result<()> {
     match nodes(sheet) {
-        Measured::Refused(why) => print_refusal(why),
-        Measured::Nodes(number) => {
-            io::write_all(STDOUT_FILENO, b"nodes ");
-            io::print_decimal(STDOUT_FILENO, number as u64);
-            io::write_all(STDOUT_FILENO, b"\n");
-        }
+        Measured::Refused(why) => print_refusal(rt, why),
+        Measured::Nodes(number) => println!(rt; "nodes {number}"),
     }
 }
 
-fn print_fragments(sheet: &[u8]) {
-    print_nodes(sheet);
-    print_table(sheet);
+fn print_fragments(rt: &impl Print, sheet: &[u8]) -> io::Result<()> {
+    print_nodes(rt, sheet)?;
+    print_table(rt, sheet)
 }
 
-fn print_calls(sheet: &[u8]) {
-    io::write_all(STDOUT_FILENO, b"calls ");
-    print_bytes(&refused_calls(sheet));
+fn print_calls(rt: &impl Print, sheet: &[u8]) -> io::Result<()> {
+    rt.write_all(b"calls ")?;
+    print_bytes(rt, &refused_calls(sheet))
 }
 
-fn print_sheet(sheet: &[u8]) {
+fn print_sheet(rt: &impl Print, sheet: &[u8]) -> io::Result<()> {
     let mut out = [0u8; 2048];
     match tidy(sheet, &mut out) {
         Tidied::Refused(why) => {
-            print_refusal(why);
-            print_calls(sheet);
+            print_refusal(rt, why)?;
+            print_calls(rt, sheet)
         }
         Tidied::Length(bytes) => {
             if bytes <= 2048 {
-                io::write_all(STDOUT_FILENO, b"tidy ");
-                print_bytes(&out[..bytes]);
-                print_fragments(sheet);
+                rt.write_all(b"tidy ")?;
+                print_bytes(rt, &out[..bytes])?;
+                print_fragments(rt, sheet)?;
             }
+            Ok(())
         }
     }
 }
@@ -85,22 +87,23 @@ fn wide(byte: u8) -> usize
     byte as usize
 }
 
-fn print_sheets(input: &[u8]) {
+fn print_sheets(rt: &impl Print, input: &[u8]) -> io::Result<()> {
     let mut at = 0;
     while 2 <= input.len() - at {
         let bytes = wide(input[at]) * 256 + wide(input[at + 1]);
         let start = at + 2;
         if input.len() - start < bytes {
-            return;
+            return Ok(());
         }
         let end = start + bytes;
-        print_sheet(&input[start..end]);
+        print_sheet(rt, &input[start..end])?;
         at = end;
     }
+    Ok(())
 }
 
-fn main() {
-    let mut input = io::large_buffer();
-    let got = io::read_full(0, &mut input);
-    print_sheets(&input[..got]);
+fn main(rt: HostRuntime) -> io::Result<()> {
+    let mut input = Vec::new(rt.alloc());
+    rt.stdin().take(INPUT).read_to_end(&mut input)?;
+    print_sheets(&rt, &input)
 }

@@ -3,90 +3,91 @@ use crate::Sums;
 use crate::answers::{MARK, nodes_of, part, plus};
 use capi_put::put_drawn;
 use counter::{Place, configuration, drawing};
-use libc::STDOUT_FILENO;
+use std::io;
 use test_second::table::byte;
 
-fn text(words: &[u8]) {
-    io::write_all(STDOUT_FILENO, words);
+fn text(rt: &impl Print, words: &[u8]) -> io::Result<()> {
+    rt.write_all(words)
 }
 
-fn decimal(number: usize) {
-    io::print_decimal(STDOUT_FILENO, number as u64);
+fn decimal(rt: &impl Print, number: usize) -> io::Result<()> {
+    rt.print(number)
 }
 
 // root:leaf for each hung root.
-fn placing_line(placing: &[u8], n: usize) {
+fn placing_line(rt: &impl Print, placing: &[u8], n: usize) -> io::Result<()> {
     for v in 0..n {
         let leaf = byte(placing, v);
         if leaf == 255 {
             continue;
         }
-        text(b" ");
-        decimal(v);
-        text(b":");
-        decimal(leaf);
+        text(rt, b" ")?;
+        decimal(rt, v)?;
+        text(rt, b":")?;
+        decimal(rt, leaf)?;
     }
-    text(b"\n");
+    text(rt, b"\n")
 }
 
-fn reading_lines(sheet: &[u8], readings: usize) {
+fn reading_lines(rt: &impl Print, sheet: &[u8], readings: usize) -> io::Result<()> {
     let mut place = Place::start();
     for number in 0..readings {
         let mut out = [MARK; 256];
         let next = place.next(sheet, &mut out);
         place = next.place;
-        decimal(plus(number, 1));
-        placing_line(&out, nodes_of(sheet));
+        decimal(rt, plus(number, 1))?;
+        placing_line(rt, &out, nodes_of(sheet))?;
     }
+    Ok(())
 }
 
-fn drawing_line(sheet: &[u8]) {
+fn drawing_line(rt: &impl Print, sheet: &[u8]) -> io::Result<()> {
     let mut page = [MARK; 1024];
     let answer = drawing(sheet, 1, &mut page);
     let mut bytes = 0;
     put_drawn(answer, &mut bytes);
-    text(b"drawing ");
-    text(part(&page, bytes as usize));
-    text(b"\n");
+    text(rt, b"drawing ")?;
+    text(rt, part(&page, bytes as usize))?;
+    text(rt, b"\n")
 }
 
-fn configuration_line(sheet: &[u8]) {
+fn configuration_line(rt: &impl Print, sheet: &[u8]) -> io::Result<()> {
     let mut out = [MARK; 256];
     configuration(sheet, &mut out);
-    text(b"configuration");
-    placing_line(&out, nodes_of(sheet));
+    text(rt, b"configuration")?;
+    placing_line(rt, &out, nodes_of(sheet))
 }
 
 // A short list's readings, configuration and first drawing besides.
-fn solved_lines(sheet: &[u8], readings: usize) {
-    text(b": readings ");
-    decimal(readings);
-    text(b"\n");
+fn solved_lines(rt: &impl Print, sheet: &[u8], readings: usize) -> io::Result<()> {
+    text(rt, b": readings ")?;
+    decimal(rt, readings)?;
+    text(rt, b"\n")?;
     if readings <= 2 {
-        reading_lines(sheet, readings);
-        configuration_line(sheet);
-        drawing_line(sheet);
+        reading_lines(rt, sheet, readings)?;
+        configuration_line(rt, sheet)?;
+        drawing_line(rt, sheet)?;
     }
+    Ok(())
 }
 
-pub fn case(name: &[u8], sheet: &[u8], readings: usize) {
-    text(name);
+pub fn case(rt: &impl Print, name: &[u8], sheet: &[u8], readings: usize) -> io::Result<()> {
+    text(rt, name)?;
     if readings == 0 {
-        text(b": refused 9\n");
-        return;
+        return text(rt, b": refused 9\n");
     }
-    solved_lines(sheet, readings);
+    solved_lines(rt, sheet, readings)
 }
 
-fn sum(label: &[u8], number: usize) {
-    text(label);
-    decimal(number);
+fn sum(rt: &impl Print, label: &[u8], number: usize) -> io::Result<()> {
+    text(rt, label)?;
+    decimal(rt, number)
 }
 
-pub fn summary(sums: Sums) {
-    sum(b"sheets ", sums.sheets);
-    sum(b", refused ", sums.refused);
-    sum(b", readings ", sums.readings);
-    sum(b", mismatches ", sums.wrong);
-    text(b"\n");
+pub fn summary(rt: &impl Print, sums: Sums) -> io::Result<()> {
+    sum(rt, b"sheets ", sums.sheets)?;
+    sum(rt, b", refused ", sums.refused)?;
+    sum(rt, b", readings ", sums.readings)?;
+    sum(rt, b", mismatches ", sums.wrong)?;
+    text(rt, b"\n")
 }

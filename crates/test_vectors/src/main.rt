@@ -11,8 +11,13 @@ mod trial;
 
 use answers::{fails, is_cycle, plus};
 use lines::{case, summary};
+use std::io;
+use std::io::Read;
 use test_second::table::byte;
 use trial::{Found, trial};
+
+// No more of the input is read.
+const INPUT: u64 = 65536;
 
 #[derive(Clone, Copy)]
 pub struct Sums {
@@ -57,21 +62,27 @@ fn tried(cycle: &[u8], sheet: &[u8]) -> Found {
 }
 
 // A sheet with a name gets lines of its own.
-fn one_sheet(name: &[u8], cycle: &[u8], sheet: &[u8], sums: Sums) -> Sums {
+fn one_sheet(
+    rt: &impl Print,
+    name: &[u8],
+    cycle: &[u8],
+    sheet: &[u8],
+    sums: Sums,
+) -> io::Result<Sums> {
     let found = tried(cycle, sheet);
     if name.len() != 0 {
-        case(name, sheet, found.readings);
+        case(rt, name, sheet, found.readings)?;
     }
-    Sums {
+    Ok(Sums {
         sheets: plus(sums.sheets, 1),
         refused: plus(sums.refused, fails(found.readings != 0)),
         readings: plus(sums.readings, found.readings),
         wrong: plus(sums.wrong, fails(found.right)),
-    }
+    })
 }
 
 // Three fields a sheet: name, cycle, and the sheet itself.
-fn all_sheets(input: &[u8]) -> Sums {
+fn all_sheets(rt: &impl Print, input: &[u8]) -> io::Result<Sums> {
     let mut sums = Sums {
         sheets: 0,
         refused: 0,
@@ -81,23 +92,25 @@ fn all_sheets(input: &[u8]) -> Sums {
     let mut at = 0;
     for _sheet in 0..input.len() {
         if input.len() <= at {
-            return sums;
+            return Ok(sums);
         }
         let second = end_of(input, at);
         let third = end_of(input, second);
         sums = one_sheet(
+            rt,
             field(input, at),
             field(input, second),
             field(input, third),
             sums,
-        );
+        )?;
         at = end_of(input, third);
     }
-    sums
+    Ok(sums)
 }
 
-fn main() {
-    let mut input = io::large_buffer();
-    let got = io::read_full(0, &mut input);
-    summary(all_sheets(&input[..got]));
+fn main(rt: HostRuntime) -> io::Result<()> {
+    let mut input = Vec::new(rt.alloc());
+    rt.stdin().take(INPUT).read_to_end(&mut input)?;
+    let sums = all_sheets(&rt, &input)?;
+    summary(&rt, sums)
 }

@@ -26,7 +26,7 @@ pub struct Found {
 // The list, against the second solver's.
 fn listed(sheet: &[u8], size: Size) -> bool {
     let n = size.nodes;
-    let mut table = io::large_buffer();
+    let mut table = [0u8; TABLE];
     let rows = test_second::list(sheet, size.readings, &mut table);
     if rows != size.readings {
         return false;
