@@ -4,13 +4,10 @@ use Prim.Native.Nat.{ℕ, ◌-◌, ◌≤◌, ◌<◌}
 use mathlib.Core.Path.{◌≡◌, refl, sym, ap, ◌∙◌, subst}
 use mathlib.Core.List.{List, [], ◌∷◌}
 use mathlib.Core.Bool.{Bool, true, false, cond, false≢true, true≢false, ◌||◌}
-use mathlib.Core.Logic.{⊎_elim}
 use native.Mathlib.Omega.{arith}
 use lib.Dec.{eqb, leb}
 use lib.ListN.{length, drop}
 use lib.Seq.{drop-drop}
-use types.Run.{OneOf}
-use denote.Enum.Declared.{tag_of}
 use borrow.Author.Tests.{leb-false, lt-ltb, ne_eqb}
 use Rattle.base_finite.proofs.Laws.{by_bool}
 use Rattle.base_nodeset.specs.Set.{Empty as EmptySet}
@@ -27,7 +24,6 @@ use Rattle.sheet_commands.specs.Turn.{outcome_after}
 use Rattle.sheet_commands.specs.declared.command.Step.{Step}
 use Rattle.sheet_commands.specs.declared.command.Step.TheVariants.{Nodes, Tree, Dominance, Label, Differ, End, Refused}
 use Rattle.sheet_commands.specs.declared.command.Passed.{Passed}
-use Rattle.sheet_commands.specs.contracts.command.Step.{the_type}
 use Rattle.sheet_commands.proofs.Steps.{commands_step}
 use Rattle.sheet_commands.proofs.Runs.{step_within}
 use Rattle.sheet_nodes.specs.Table.{Empty, NodeTable}
@@ -36,23 +32,23 @@ use Rattle.sheet_nodes.proofs.Holds.{holding_none}
 
 -- the steps that a `match` does not name
 
-pub other_stops : (x : Step) → OneOf (0 ∷ 5 ∷ 6 ∷ []) (tag_of the_type x) → false ≡ goes_on x
-other_stops (Nodes n) o = refl
-other_stops (Tree p c) o = absurd (⊎_elim (λ q. omega arith) (⊎_elim (λ q. omega arith) (λ q. omega arith)) o)
-other_stops (Dominance l r) o = absurd (⊎_elim (λ q. omega arith) (⊎_elim (λ q. omega arith) (λ q. omega arith)) o)
-other_stops (Label p s) o = absurd (⊎_elim (λ q. omega arith) (⊎_elim (λ q. omega arith) (λ q. omega arith)) o)
-other_stops Differ o = absurd (⊎_elim (λ q. omega arith) (⊎_elim (λ q. omega arith) (λ q. omega arith)) o)
-other_stops End o = refl
-other_stops (Refused why) o = refl
+pub other_stops : (x : Step) → ((p c : ℕ) → x ≡ Tree p c → ⊥) → ((l r : ℕ) → x ≡ Dominance l r → ⊥) → ((p s : ℕ) → x ≡ Label p s → ⊥) → (x ≡ Differ → ⊥) → false ≡ goes_on x
+other_stops (Nodes n) t d l o = refl
+other_stops (Tree p c) t d l o = absurd (t p c refl)
+other_stops (Dominance u v) t d l o = absurd (d u v refl)
+other_stops (Label p s) t d l o = absurd (l p s refl)
+other_stops Differ t d l o = absurd (o refl)
+other_stops End t d l o = refl
+other_stops (Refused why) t d l o = refl
 
-pub other_adds_nothing : (t m : List Edge) (x : Step) → OneOf (0 ∷ 2 ∷ 4 ∷ 5 ∷ 6 ∷ []) (tag_of the_type x) → (tree_with t x ≡ t) × (symbols_with m x ≡ m)
-other_adds_nothing t m (Nodes n) o = (refl, refl)
-other_adds_nothing t m (Tree p c) o = absurd (⊎_elim (λ q. omega arith) (⊎_elim (λ q. omega arith) (⊎_elim (λ q. omega arith) (⊎_elim (λ q. omega arith) (λ q. omega arith)))) o)
-other_adds_nothing t m (Dominance l r) o = (refl, refl)
-other_adds_nothing t m (Label p s) o = absurd (⊎_elim (λ q. omega arith) (⊎_elim (λ q. omega arith) (⊎_elim (λ q. omega arith) (⊎_elim (λ q. omega arith) (λ q. omega arith)))) o)
-other_adds_nothing t m Differ o = (refl, refl)
-other_adds_nothing t m End o = (refl, refl)
-other_adds_nothing t m (Refused why) o = (refl, refl)
+pub other_adds_nothing : (t m : List Edge) (x : Step) → ((p c : ℕ) → x ≡ Tree p c → ⊥) → ((p s : ℕ) → x ≡ Label p s → ⊥) → (tree_with t x ≡ t) × (symbols_with m x ≡ m)
+other_adds_nothing t m (Nodes n) a b = (refl, refl)
+other_adds_nothing t m (Tree p c) a b = absurd (a p c refl)
+other_adds_nothing t m (Dominance l r) a b = (refl, refl)
+other_adds_nothing t m (Label p s) a b = absurd (b p s refl)
+other_adds_nothing t m Differ a b = (refl, refl)
+other_adds_nothing t m End a b = (refl, refl)
+other_adds_nothing t m (Refused why) a b = (refl, refl)
 
 -- one command of a sheet that is accepted
 

@@ -40,4 +40,4 @@ returns c = let a = c.args in
     let h = c.all_hung-end in record { written = rw reading_is (written_byte _ _ _ _ _ _ (written_more _ _ _ _ _ _ _ _ d.ensures h.ensures)); upper_bound = omega (arith, short, d.ensures.after, h.ensures.after) }
 
 pub shape_of-out : goal.shape_of-out
-shape_of-out c = written_length _ _ _ _ _ (returns c).0
+shape_of-out c = written_length _ _ _ _ _ (returns c).written

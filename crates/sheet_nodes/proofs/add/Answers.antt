@@ -13,9 +13,9 @@ add_label-requires c =
 
 pub add_child-requires : goal.add_child-requires
 add_child-requires c =
-    let g = c.step-in-Tree-1.given in
-    let on : (ltb g.0.0 128 && ltb g.0.1.0 128) ≡ true = rw g.1 at c.requires.0 in
-    let both = and_both (ltb g.0.0 128) (ltb g.0.1.0 128) on in
+    let e = c.in-Tree in
+    let on : (ltb e.p 128 && ltb e.c 128) ≡ true = rw e.is at c.requires.0 in
+    let both = and_both (ltb e.p 128) (ltb e.c 128) on in
     (ltb-true _ 128 both.0, ltb-true _ 128 both.1, c.requires.1)
 
 pub returns-in-Label : goal.returns-in-Label
@@ -26,5 +26,5 @@ returns-in-Tree c = λ t m holding. rw c.in-Tree.is (c.add_child.ensures t m _ h
 
 pub returns-in_default : goal.returns-in_default
 returns-in_default c = λ t m holding.
-    let nothing = other_adds_nothing t m c.args.step c.in_default.in_default-own.keys3 in
+    let nothing = other_adds_nothing t m c.args.step c.in_default.not-Tree c.in_default.not-Label in
     rw (nothing.0, nothing.1) holding

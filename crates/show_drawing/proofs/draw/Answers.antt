@@ -11,16 +11,18 @@ pub fill_homes-requires : goal.fill_homes-requires
 fill_homes-requires c = (given_parents c.args.n c.args.parent.now c.args.placing.now c.requires.0, c.inner_nodes-inner.ensures, refl)
 
 pub tops-requires : goal.tops-requires
-tops-requires c = let parts = let a = c.args in
+tops-requires c =
+    let a = c.args in
     let h = c.fill_homes in
     let parents = given_parents a.n a.parent.now a.placing.now c.requires.0 in
-    let fits = text_fits a.n a.parent.now a.placing.now c.requires.0 h.new.1.1.1.0 h.ensures in
-    let counted = size_is a.n a.parent.now a.placing.now c.requires.0 h.new.1.1.1.0 h.ensures in
-    let long = placing_long a.n a.parent.now a.placing.now c.requires.0 in (
-      record { few = parents.few; homes = h.ensures.long; placed = long },
-      ((some_nodes a.n a.parent.now a.placing.now c.requires.0, parents), (counted, omega (arith, fits, c.requires.1))),
-    ) in record { lent = parts.0; n_nonzero = parts.1; counted = parts.2; placing_in_bounds = parts.3 }
+    let fits = text_fits a.n a.parent.now a.placing.now c.requires.0 h.new.homes h.ensures in
+    record {
+      lent = record { few = parents.few; homes = h.ensures.long; placed = placing_long a.n a.parent.now a.placing.now c.requires.0 };
+      n_nonzero = (some_nodes a.n a.parent.now a.placing.now c.requires.0, parents);
+      counted = size_is a.n a.parent.now a.placing.now c.requires.0 h.new.homes h.ensures;
+      placing_in_bounds = omega (arith, fits, c.requires.1);
+    }
 
 pub returns : goal.returns
 returns c = λ d.
-    drawn c.args.n c.args.parent.now c.args.placing.now d c.fill_homes.new.1.1.1.0 c.fill_homes.ensures _ _ _ c.requires.1 c.tops.ensures.written
+    drawn c.args.n c.args.parent.now c.args.placing.now d c.fill_homes.new.homes c.fill_homes.ensures _ _ _ c.requires.1 c.tops.ensures.written
