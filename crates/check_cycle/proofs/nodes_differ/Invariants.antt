@@ -3,7 +3,6 @@ use Prim.Native.Nat.{ℕ, ◌-◌, ◌≤◌, ◌<◌}
 use mathlib.Core.Path.{◌≡◌}
 use mathlib.Core.Bool.{true}
 use Rattle.base_nodeset.specs.Set.{mem}
-use Rattle.graph.specs.Cycle.{pairs}
 use Rattle.check_cycle.specs.Check.{fresh}
 use Rattle.check_cycle.proofs.Scans.{seen_before}
 use Rattle.check_cycle.proofs.nodes_differ.Given as goal

@@ -29,7 +29,7 @@ pub returns : goal.returns
 returns c =
     let a = c.args in
     let old : List ℕ = a.placing.now in
-    let new : List ℕ = c.steps.new.1.1.1.0 in
+    let new : List ℕ = c.steps.new.p in
     let kept : length new ≡ length (take a.n old) = c.steps.auto.p in
     let long : length new ≡ a.n = kept ∙ solved_length a.n a.parent.now (take a.n old) c.requires in
     record {

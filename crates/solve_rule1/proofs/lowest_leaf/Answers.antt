@@ -1,7 +1,5 @@
 use native.Mathlib.Omega.{arith}
-use Prim.Native.Nat.{◌-◌}
 use mathlib.Core.Path.{sym, ◌∙◌}
-use mathlib.Core.Bool.{false}
 use borrow.Author.Count.{below_none, below_more}
 use Rattle.base_finite.proofs.Laws.{least_is, least_none}
 use Rattle.graph.specs.Graph.{leaf_of}

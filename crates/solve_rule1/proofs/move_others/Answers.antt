@@ -1,5 +1,4 @@
 use native.Mathlib.Omega.{arith}
-use Prim.Native.Nat.{◌-◌}
 use Rattle.solve_rule1.proofs.Stepping.{moving_start, moving_more}
 use Rattle.solve_rule1.proofs.move_others.Goals as goal
 

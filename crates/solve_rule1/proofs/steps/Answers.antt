@@ -1,8 +1,6 @@
 use native.Mathlib.Omega.{arith}
-use Prim.Native.Nat.{◌-◌}
 use mathlib.Core.Path.{◌≡◌, sym, ◌∙◌}
 use lib.ListN.{length}
-use borrow.Author.Tests.{not-true, not-false}
 use Rattle.solve_rule1.specs.Solved.{Solved}
 use Rattle.solve_rule1.proofs.SolvedTables.{few, solved_length}
 use Rattle.solve_rule1.proofs.Stepping.{few_steps, reached_none, reached_more, reached_end, reached_all, stepped_solved}
@@ -25,7 +23,7 @@ pub shape_of-p-then-not-step : goal.shape_of-p-then-not-step
 shape_of-p-then-not-step c =
     let l = c.loop-done in
     let a = c.args in
-    let kept : length c.step.new.1.1.1.0 ≡ length l.p = c.step.auto.p in
+    let kept : length c.step.new.p ≡ length l.p = c.step.auto.p in
     kept ∙ solved_length a.n a.parent.now l.p l.invariant.1 ∙ sym (solved_length a.n a.parent.now a.p.now c.requires.0)
 
 pub returns-then-not-step : goal.returns-then-not-step
@@ -34,7 +32,7 @@ returns-then-not-step c = λ s.
     let a = c.args in
     let w = l.invariant.2 s in
     let here : Solved a.n a.parent.now l.p = record { sheet = s.sheet; solved = w.solved } in
-    reached_end a.n a.parent.now a.p.now s l.done l.p c.step.new.1.1.1.0 c.step.result w (c.step.ensures here) (not-true c.step.result c.if-not-step.true)
+    reached_end a.n a.parent.now a.p.now s l.done l.p c.step.new.p c.step.result w (c.step.ensures here) c.if-not-step.true
 
 pub overflow_add-done : goal.overflow_add-done
 overflow_add-done c =
@@ -46,11 +44,11 @@ loop-done-preserved c =
     let l = c.loop-done in
     let a = c.args in (
       omega arith,
-      stepped_solved a.n a.parent.now l.p c.step.new.1.1.1.0 c.step.result l.invariant.1 (c.step.ensures l.invariant.1),
+      stepped_solved a.n a.parent.now l.p c.step.new.p c.step.result l.invariant.1 (c.step.ensures l.invariant.1),
       λ s.
           let w = l.invariant.2 s in
           let here : Solved a.n a.parent.now l.p = record { sheet = s.sheet; solved = w.solved } in
-          reached_more a.n a.parent.now a.p.now s l.done l.p c.step.new.1.1.1.0 c.step.result w (c.step.ensures here) (not-false c.step.result c.if-not-step.false),
+          reached_more a.n a.parent.now a.p.now s l.done l.p c.step.new.p c.step.result w (c.step.ensures here) c.if-not-step.false,
     )
 
 pub shape_of-p : goal.shape_of-p
