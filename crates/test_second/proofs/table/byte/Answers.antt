@@ -1,4 +1,5 @@
-use Rattle.std.proofs.Common.{◌≡◌, ℕ, zero, suc, ◌<◌, List, [], ◌∷◌, length, get_or, sym, refl, ◌∙◌, arith, rules}
+use mathlib.Core.List.{[]}
+use Rattle.std.proofs.Common.{◌≡◌, ℕ, zero, suc, ◌<◌, List, ◌∷◌, length, get_or, sym, refl, ◌∙◌, arith, rules}
 use lib.ListN.{get_or-eq_default}
 use Rattle.test_second.proofs.table.byte.Goals as goal
 
