@@ -28,7 +28,7 @@ impl Program {
     pub fn all(readings: &str) -> Result<[Program; PROGRAMS], String> {
         let this = std::env::current_exe().map_err(|why| why.to_string())?;
         let ours = this.with_file_name("bixtogan");
-        for (path, make) in [(Path::new(readings), "rt check readings"), (&ours, "cargo build --release")] {
+        for (path, make) in [(Path::new(readings), "tools/build readings"), (&ours, "cargo build --release")] {
             if !path.exists() {
                 return Err(format!("{} is not there: `{make}` makes it", path.display()));
             }

@@ -1,4 +1,4 @@
-//! Links the static library that `rt staticlib capi` writes; BIXTOGAN_LIB names another folder that holds it.
+//! Links the static library that `tools/build library` writes; BIXTOGAN_LIB names another folder that holds it.
 use std::env;
 use std::path::PathBuf;
 
@@ -9,7 +9,7 @@ fn main() {
     };
     let library = folder.join("libcapi.a");
     if !library.exists() {
-        println!("cargo:warning={} is not there; `rt staticlib capi` writes it", library.display());
+        println!("cargo:warning={} is not there; `tools/build library` writes it", library.display());
     }
     println!("cargo:rerun-if-env-changed=BIXTOGAN_LIB");
     println!("cargo:rerun-if-changed={}", library.display());

@@ -1,6 +1,6 @@
 //! The program `readings` from its input to what it writes, held against the second implementation: document 01's "The printed
 //! list", with what document 02 says of repeats and of long inputs (One), of nodes without tree edges (Two) and of labels (Three).
-//! `rt check readings` makes the program.
+//! `tools/build readings` makes the program.
 use differential::listing::{self, Leave};
 use differential::placing::hung;
 use differential::random::Random;
@@ -16,7 +16,7 @@ use std::time::Duration;
 /// The program, started.
 fn spawn(out: Stdio) -> Child {
     let program = PathBuf::from(env!("CARGO_MANIFEST_DIR")).join("../target/bin/readings");
-    Command::new(&program).stdin(Stdio::piped()).stdout(out).spawn().expect("rt check readings makes it")
+    Command::new(&program).stdin(Stdio::piped()).stdout(out).spawn().expect("tools/build readings makes it")
 }
 
 /// The program, started on this input.

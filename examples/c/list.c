@@ -1,7 +1,7 @@
 /*
  * Lists the readings of the chain of two, as the program `readings` prints them.
  *
- *     rt staticlib capi
+ *     tools/build library
  *     cc -Iinclude examples/c/list.c target/staticlib/libcapi.a -o list && ./list
  */
 #include "bixtogan.h"
