@@ -3,17 +3,14 @@ use Prim.Native.Nat.{ℕ, ◌≤◌}
 use mathlib.Core.Path.{◌≡◌, refl, sym, ◌∙◌}
 use mathlib.Core.List.{List}
 use mathlib.Core.Bool.{false≢true}
-use mathlib.Core.Logic.{◌⊎◌, ⊎_elim}
 use native.Mathlib.Omega.{arith}
 use lib.ListN.{replicate, length-replicate, get_or-replicate}
-use denote.Enum.Declared.{tag_of}
 use Rattle.base_finite.proofs.Stores.{zeros}
 use Rattle.base_nodeset.proofs.Laws.{member_zero}
 use Rattle.graph.specs.Graph.{Edge, among, different, single, parent}
 use Rattle.format.specs.Sheet.{Outcome, whole, all_commands}
 use Rattle.format.specs.declared.Form.{Form}
 use Rattle.format.specs.declared.Refusal.{Refusal}
-use Rattle.sheet_commands.specs.contracts.turn.Run.{the_type}
 use Rattle.theory_edges.specs.Edges.{graph_with}
 use Rattle.base_tables.specs.Tables.{Holds}
 use Rattle.sheet_commands.specs.Turn.{Reached}
@@ -54,13 +51,13 @@ module _ (f : Form) (s parents low high : List ℕ) (x : Run) (ran : Ran f s x p
   unfolding Ran Reached
   ended n k e = rw e at ran
 
-  pub run_stopped : ((tag_of the_type x ≡ 0) ⊎ (tag_of the_type x ≡ 2)) → Decodes (all_commands f s) (stop_of x) parents low high
+  pub run_stopped : ((n k : ℕ) → x ≡ Ended n k → ⊥) → Decodes (all_commands f s) (stop_of x) parents low high
   unfolding Decodes Ran Reached
   run_stopped o = stopped x ran o
     where
-      stopped : (y : Run) → Ran f s y parents low high → ((tag_of the_type y ≡ 0) ⊎ (tag_of the_type y ≡ 2)) → Decodes (all_commands f s) (stop_of y) parents low high
+      stopped : (y : Run) → Ran f s y parents low high → ((n k : ℕ) → y ≡ Ended n k → ⊥) → Decodes (all_commands f s) (stop_of y) parents low high
       stopped (Going n k) r o = absurd r
-      stopped (Ended n k) r o = absurd (⊎_elim (λ q. omega arith) (λ q. omega arith) o)
+      stopped (Ended n k) r o = absurd (o n k refl)
       stopped (RunRefused why) r o = r
 
   module _ (n k : ℕ) (e : x ≡ Ended n k) (v : Verdict) (judged : (t d : List Edge) (edges : ℕ) → Holds n t d parents low high edges → Judged n t d v) where

@@ -1,14 +1,11 @@
 -- The labels gathered from a sheet, a command more at each turn.
 use Prim.Native.Nat.{ℕ, ◌+◌, ◌-◌, ◌<◌}
 use mathlib.Core.Path.{◌≡◌, refl, sym, ap, ◌∙◌}
-use mathlib.Core.List.{List, [], ◌∷◌}
-use mathlib.Core.Logic.{⊎_elim}
+use mathlib.Core.List.{List}
 use mathlib.Core.Bool.{true, false, false≢true, true≢false}
 use native.Mathlib.Omega.{arith}
 use lib.ListN.{length, drop}
 use lib.Seq.{drop-drop}
-use types.Run.{OneOf}
-use denote.Enum.Declared.{tag_of}
 use borrow.Author.Tests.{ltb-true, ltb-false, lt-leb, le-leb, ne_eqb}
 use Rattle.format.specs.Sheet as spec
 use Rattle.format.specs.declared.Form.TheVariants.{Labelled}
@@ -17,7 +14,6 @@ use Rattle.sheet_commands.specs.Labels.{gathered, gathered_after, labels_in}
 use Rattle.sheet_commands.specs.declared.command.Step.{Step}
 use Rattle.sheet_commands.specs.declared.command.Step.TheVariants.{Nodes, Tree, Dominance, Label, Differ, End, Refused}
 use Rattle.sheet_commands.specs.declared.command.Passed.{Passed}
-use Rattle.sheet_commands.specs.contracts.command.Step.{the_type}
 use Rattle.sheet_commands.proofs.Steps.{gathered_step}
 use Rattle.sheet_commands.proofs.Runs.{step_within}
 use Rattle.sheet_labels.specs.Keep.{Keeps}
@@ -66,23 +62,23 @@ wide (Refused why) h = absurd (false≢true h)
 
 -- the steps that a `match` does not name
 
-pub other_stops : (x : Step) → OneOf (0 ∷ 5 ∷ 6 ∷ []) (tag_of the_type x) → false ≡ goes_on x
-other_stops (Nodes n) o = refl
-other_stops (Tree p c) o = absurd (⊎_elim (λ q. omega arith) (⊎_elim (λ q. omega arith) (λ q. omega arith)) o)
-other_stops (Dominance l r) o = absurd (⊎_elim (λ q. omega arith) (⊎_elim (λ q. omega arith) (λ q. omega arith)) o)
-other_stops (Label p s) o = absurd (⊎_elim (λ q. omega arith) (⊎_elim (λ q. omega arith) (λ q. omega arith)) o)
-other_stops Differ o = absurd (⊎_elim (λ q. omega arith) (⊎_elim (λ q. omega arith) (λ q. omega arith)) o)
-other_stops End o = refl
-other_stops (Refused why) o = refl
+pub other_stops : (x : Step) → ((p c : ℕ) → x ≡ Tree p c → ⊥) → ((l r : ℕ) → x ≡ Dominance l r → ⊥) → ((p s : ℕ) → x ≡ Label p s → ⊥) → (x ≡ Differ → ⊥) → false ≡ goes_on x
+other_stops (Nodes n) t d l o = refl
+other_stops (Tree p c) t d l o = absurd (t p c refl)
+other_stops (Dominance u v) t d l o = absurd (d u v refl)
+other_stops (Label p s) t d l o = absurd (l p s refl)
+other_stops Differ t d l o = absurd (o refl)
+other_stops End t d l o = refl
+other_stops (Refused why) t d l o = refl
 
-pub other_says_nothing : (m : spec.Labels) (x : Step) → OneOf (0 ∷ 1 ∷ 2 ∷ 5 ∷ 6 ∷ []) (tag_of the_type x) → after_step m x ≡ m
-other_says_nothing m (Nodes n) o = refl
-other_says_nothing m (Tree p c) o = refl
-other_says_nothing m (Dominance l r) o = refl
-other_says_nothing m (Label p s) o = absurd (⊎_elim (λ q. omega arith) (⊎_elim (λ q. omega arith) (⊎_elim (λ q. omega arith) (⊎_elim (λ q. omega arith) (λ q. omega arith)))) o)
-other_says_nothing m Differ o = absurd (⊎_elim (λ q. omega arith) (⊎_elim (λ q. omega arith) (⊎_elim (λ q. omega arith) (⊎_elim (λ q. omega arith) (λ q. omega arith)))) o)
-other_says_nothing m End o = refl
-other_says_nothing m (Refused why) o = refl
+pub other_says_nothing : (m : spec.Labels) (x : Step) → ((p s : ℕ) → x ≡ Label p s → ⊥) → (x ≡ Differ → ⊥) → after_step m x ≡ m
+other_says_nothing m (Nodes n) l o = refl
+other_says_nothing m (Tree p c) l o = refl
+other_says_nothing m (Dominance u v) l o = refl
+other_says_nothing m (Label p s) l o = absurd (l p s refl)
+other_says_nothing m Differ l o = absurd (o refl)
+other_says_nothing m End l o = refl
+other_says_nothing m (Refused why) l o = refl
 
 -- at an offset past the first command: what is said so far is kept, and the commands from here on say the rest
 pub record Gathers (s : List ℕ) (at : ℕ) (r : Labels) : Type 0 where

@@ -1,7 +1,5 @@
-use Prim.Native.Nat.{◌-◌}
 use mathlib.Core.Path.{sym, ◌∙◌}
 use native.Mathlib.Omega.{arith}
-use mathlib.Core.Bool.{false}
 use borrow.Author.Count.{below_none, below_more}
 use Rattle.base_finite.proofs.Laws.{any_at, any_none}
 use Rattle.sheet_decode.specs.Judge.{rises_in, cyclic_in}

@@ -12,4 +12,4 @@ pub returns-in-Differ : goal.returns-in-Differ
 returns-in-Differ c = λ m keeps. rw c.in-Differ.is (c.differing.ensures m keeps)
 
 pub returns-in_default : goal.returns-in_default
-returns-in_default c = λ m keeps. rw (other_says_nothing m _ c.in_default.in_default-own.keys3) keeps
+returns-in_default c = λ m keeps. rw (other_says_nothing m _ c.in_default.not-Label c.in_default.not-Differ) keeps
