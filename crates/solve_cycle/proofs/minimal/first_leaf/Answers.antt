@@ -1,6 +1,5 @@
-use Prim.Native.Nat.{◌-◌}
-use mathlib.Core.Path.{◌≡◌, sym, ◌∙◌}
-use mathlib.Core.Bool.{false}
+use mathlib.Core.Path.{◌≡◌, ap, sym, ◌∙◌}
+use mathlib.Core.Bool.{not}
 use native.Mathlib.Omega.{arith}
 use borrow.Author.Count.{below_more}
 use Rattle.base_finite.specs.Below.{any}
@@ -23,7 +22,7 @@ returns-then-not-is_empty c =
     let l = c.loop-l in
     let row = c.set_at in
     sym (least_is a.n (λ k. any 128 (in_row a.low.now a.high.now k)) l.l (omega arith)
-    (sym (any_ext 128 (mem row.result) (in_row a.low.now a.high.now l.l) (λ k h. row.ensures k)) ∙ some_member row.result _ c.is_empty.ensures c.if-not-is_empty.true)
+    (sym (any_ext 128 (mem row.result) (in_row a.low.now a.high.now l.l) (λ k h. row.ensures k)) ∙ some_member row.result _ c.is_empty.ensures (ap not c.if-not-is_empty.true))
     l.invariant.1)
 
 pub overflow_step-l : goal.overflow_step-l
@@ -36,7 +35,7 @@ loop-l-preserved c =
     let row = c.set_at in (
       omega arith,
       below_more _ _ l.invariant.1
-          (any_none 128 (in_row a.low.now a.high.now l.l) (λ k h. sym (row.ensures k) ∙ no_member row.result _ c.is_empty.ensures c.if-not-is_empty.false k h)),
+          (any_none 128 (in_row a.low.now a.high.now l.l) (λ k h. sym (row.ensures k) ∙ no_member row.result _ c.is_empty.ensures (ap not c.if-not-is_empty.false) k h)),
     )
 
 pub returns : goal.returns

@@ -32,6 +32,6 @@ loop-r-preserved c =
     let k = c.settle in (
       (k.auto.low ∙ l.invariant.0.0, k.auto.high ∙ l.invariant.0.1),
       λ g t.
-          row_more g a.trees.n a.parent.now k.new.1.1.1.0 k.new.1.1.1.1.0 a.l l.left _ _ (c.pop.ensures.lowest _ _ c.in-Member.is).others
+          row_more g a.trees.n a.parent.now k.new.low k.new.high a.l l.left _ _ (c.pop.ensures.lowest _ _ c.in-Member.is).others
           (k.ensures g (row_settled a.l l.left) (l.invariant.1 g t)),
     )

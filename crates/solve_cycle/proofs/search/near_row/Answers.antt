@@ -1,11 +1,11 @@
-use Prim.Native.Nat.{ℕ, ◌-◌}
-use mathlib.Core.Path.{◌≡◌}
+use Prim.Native.Nat.{ℕ}
+use mathlib.Core.Path.{◌≡◌, sym, ◌∙◌}
 use mathlib.Core.Bool.{Bool}
-use mathlib.Core.Logic.{⊎_elim}
 use native.Mathlib.Omega.{arith}
 use Rattle.solve_cycle.specs.Searching.{joined_in}
 use Rattle.solve_cycle.proofs.Searches.{nodes_none, nodes_there, nodes_not}
 use Rattle.solve_cycle.proofs.search.near_row.Goals as goal
+use Rattle.solve_cycle.proofs.search.near_row.Goals.{then-joined, else-joined}
 
 pub loop-v-init : goal.loop-v-init
 loop-v-init c =
@@ -17,10 +17,10 @@ loop-v-preserved c =
     let a = c.args in
     let p : ℕ → Bool = joined_in a.parent.now a.low.now a.high.now a.u in (
       omega arith,
-      ⊎_elim
-          (λ w. rw w.2 (nodes_there p l.v l.set l.invariant.1 w.1.result (rw (← c.joined.ensures) w.0.taken) w.1.ensures))
-          (λ w. rw w.1 (nodes_not p l.v l.set l.invariant.1 (rw (← c.joined.ensures) w.0.left)))
-          c.if-joined.branch,
+      elim c.if-joined.branch [
+        | then-joined w ↦ rw w.set-is (nodes_there p l.v l.set l.invariant.1 w.with-set.result (sym c.joined.ensures ∙ w.if-joined.true) w.with-set.ensures)
+        | else-joined w ↦ rw w.set-is (nodes_not p l.v l.set l.invariant.1 (sym c.joined.ensures ∙ w.if-joined.false))
+      ],
     )
 
 pub returns : goal.returns

@@ -1,4 +1,3 @@
-use Prim.Native.Nat.{◌-◌}
 use mathlib.Core.Path.{◌≡◌, sym, ◌∙◌}
 use native.Mathlib.Omega.{arith}
 use Rattle.base_tables.specs.Sets.{in_row}
@@ -34,7 +33,7 @@ loop-from-preserved c =
     let l = c.loop-from in
     let k = c.visit-found in (
       omega (arith, k.ensures.grown.more),
-      searched_more a.n (in_row a.near.now) a.root l.from l.queue l.branch l.place l.found _ _ _ k.result (omega arith) l.invariant.1 k.ensures,
+      searched_more a.n (in_row a.near.now) a.root l.from l.queue l.came l.place l.found _ _ _ k.result (omega arith) l.invariant.1 k.ensures,
     )
 
 pub shape_of-queue : goal.shape_of-queue

@@ -1,4 +1,3 @@
-use Prim.Native.Nat.{◌-◌}
 use mathlib.Core.Path.{◌≡◌, sym, ◌∙◌}
 use native.Mathlib.Omega.{arith}
 use Rattle.base_tables.specs.Sets.{in_row}
@@ -21,7 +20,7 @@ loop-v-preserved c =
     let l = c.loop-v in
     let k = c.reach-found in (
       omega (arith, c.loop-v-test.true),
-      visited_more a.turn.n (in_row a.near.now) a.turn.from l.v a.queue.now a.place.now a.turn.found l.queue l.branch l.place l.found _ _ _ k.result c.requires.long.2 l.invariant.1 k.ensures,
+      visited_more a.turn.n (in_row a.near.now) a.turn.from l.v a.queue.now a.place.now a.turn.found l.queue l.came l.place l.found _ _ _ k.result c.requires.long.2 l.invariant.1 k.ensures,
     )
 
 pub shape_of-queue : goal.shape_of-queue
