@@ -148,6 +148,7 @@ fn text_and_bytes() {
         "chain-of-two",
         "every-linguist",
         "every-linguist-labelled",
+        "every-linguist-term",
         "fork",
         "loop",
         "one-fragment",
@@ -362,7 +363,7 @@ fn both_terms_of_an_ambiguous_sheet() {
         assert_eq!(run(&["term", number], &sheet), refused("refused 11\n"), "{number}");
     }
     // As samples/README.md prints them: "every" above "a", then "a" above "every".
-    let sheet = sample("every-linguist-labelled.sheet");
+    let sheet = sample("every-linguist-term.sheet");
     assert_eq!(run(&["term", "1"], &sheet), done("129(1,128(130(2,128(131(3,4),0)),0))\n"));
     assert_eq!(run(&["term", "2"], &sheet), done("130(2,128(129(1,128(131(3,4),0)),0))\n"));
     assert_eq!(run(&["term", "3"], &sheet), refused("refused 11\n"));

@@ -18,14 +18,15 @@ use Rattle.sheet_encode.specs.declared.Tidied.{Tidied}
 use Rattle.sheet_fragments.specs.Table.{size, Tabled}
 use Rattle.sheet_fragments.specs.Records.{Recorded}
 use Rattle.sheet_fragments.specs.declared.Table.{Table}
-use Rattle.solve_answer.specs.Calls.{reach, count_number, placed_number, drawn_number, placing_number, Counts, ReadingCall, StretchCall, ConfigurationCall, TextCall, PlacingCall}
+use Rattle.solve_answer.specs.Calls.{reach, count_number, placed_number, drawn_number, placing_number, Counts, ReadingCall, StretchCall, ConfigurationCall, DrawingCall, TextCall, PlacingCall}
 use Rattle.solve_answer.specs.declared.Counted.{Counted}
 use Rattle.solve_answer.specs.declared.Placed.{Placed}
 use Rattle.solve_answer.specs.declared.Drawn.{Drawn}
 use Rattle.solve_answer.specs.declared.PlacingChecked.{PlacingChecked}
 use Rattle.solve_answer.proofs.Answering.{has_none, reaches}
+use Rattle.solve_answer.proofs.Texts.{text_from_drawing}
 use Rattle.counter.specs.Checks.{tidied_number, table_number}
-use Rattle.counter.specs.Numbers.{NoSuch, CountNumbered, ReadingNumbered, ConfigurationNumbered, TextNumbered, TidyNumbered, TableNumbered, RecordsNumbered, PlacingNumbered}
+use Rattle.counter.specs.Numbers.{NoSuch, CountNumbered, ReadingNumbered, ConfigurationNumbered, DrawingNumbered, TextNumbered, TidyNumbered, TableNumbered, RecordsNumbered, PlacingNumbered}
 
 pub count_numbered : (x : Content) {r : Counted} → Counts x.graph r → CountNumbered (accepted x) (count_number r)
 count_numbered x (Counts.none u) = inl (u, refl)
@@ -58,6 +59,9 @@ module _ (x : Content) (s : Shaped x.graph) where
   text_numbered (TextCall.beyond ps f l h (inr b)) = inr (λ t. omega (arith, f, t), inr (λ u. has_none u l h, inl (inr (ps, l, b), refl)))
   text_numbered (TextCall.drawn ps f l h b) =
       inr (λ t. omega (arith, f, t), inr (λ u. has_none u l (omega (arith, h, b)), inr (there_is l h b, refl)))
+
+  pub drawing_numbered : {k : ℕ} {old new : List ℕ} {r : Drawn} → DrawingCall x.graph k old r new → DrawingNumbered k old (accepted x) (drawn_number r)
+  drawing_numbered d = text_numbered (text_from_drawing d)
 
 pub configuration_numbered : (x : Content) {old new : List ℕ} {r : Placed} → ConfigurationCall x.graph old r new → ConfigurationNumbered old (accepted x) (placed_number r)
 configuration_numbered x (ConfigurationCall.small f) = inl (f, refl)

@@ -41,14 +41,15 @@ ReadingNumbered place lent =
 abbrev pub ConfigurationNumbered : List ℕ → Outcome → ℕ → Type 0
 ConfigurationNumbered lent = Numbered (λ s. First 10 (length lent < 2 * s.graph.nodes) (First 9 (Unsolvable s.graph) NoRefusal))
 
+-- "1,024 for a drawing"
+abbrev pub DrawingNumbered : ℕ → List ℕ → Outcome → ℕ → Type 0
+DrawingNumbered wanted lent =
+    Numbered (λ s. First 10 (length lent < 1024) (First 9 (Unsolvable s.graph) (First 11 (NoSuch s.graph wanted) NoRefusal)))
+
 -- a text of a reading, for which so many bytes are to be lent at least
 abbrev pub TextNumbered : ℕ → ℕ → List ℕ → Outcome → ℕ → Type 0
 TextNumbered least wanted lent =
     Numbered (λ s. First 10 (length lent < least) (First 9 (Unsolvable s.graph) (First 11 (NoSuch s.graph wanted) NoRefusal)))
-
--- "1,024 for a drawing"
-abbrev pub DrawingNumbered : ℕ → List ℕ → Outcome → ℕ → Type 0
-DrawingNumbered = TextNumbered 1024
 
 -- 02, Five: "the drawing's, with 2,048 bytes to lend"
 abbrev pub TermNumbered : ℕ → List ℕ → Outcome → ℕ → Type 0

@@ -10,7 +10,7 @@ use Rattle.format.specs.declared.Form.{Form}
 use Rattle.format.specs.declared.Form.TheVariants.{Plain}
 use Rattle.format.specs.declared.Refusal.{Refusal}
 use Rattle.theory_edges.proofs.Growing.{few_written}
-use Rattle.theory_format.proofs.Spelling.{accepted_spells, accepted_grown, meant_well_formed}
+use Rattle.theory_format.proofs.Spelling.{accepted_spells, meant_grown, meant_well_formed}
 use Rattle.base_tables.specs.Tables.{Tables}
 use Rattle.base_tables.proofs.Parents.{parents_held}
 use Rattle.sheet_grow.proofs.Grown.{bare_counted, grown_held}
@@ -69,7 +69,7 @@ module _ (f : Form) (bs : List ℕ) (r : Answer) (d : ReadsWritten (outcome_of f
       let few : w.nodes ≤ 128 = few_written w a.2 in
       let held = grown_held w few r.graph.parent r.graph.low r.graph.high r.graph.edges old.tables a.2.few_nodes v.parent v.n (rw old.nodes at g.parents) in
       let value : Value (spec.grown w) v = record { nodes = held.0; tables = rw (g.low, g.high, g.edges) held.1 } in
-      rw a.1 (e, subst (λ (h : spec.Graph). Value h v) (sym (accepted_grown f bs a.0 a.1)) value)
+      rw a.1 (e, subst (λ (h : spec.Graph). Value h v) (sym (meant_grown f bs a.0 a.1)) value)
 
 -- what is meant
 

@@ -44,7 +44,7 @@ use Rattle.solve_answer.specs.declared.Placed.TheVariants.{Done, NoReading, Refu
 use Rattle.solve_answer.specs.declared.Sought.{Sought}
 use Rattle.solve_answer.specs.declared.Sought.TheVariants.{Found, Refused as SoughtRefused}
 use Rattle.solve_answer.specs.declared.Drawn.TheVariants.{Length}
-use Rattle.solve_answer.proofs.Texts.{sought_solved, text_drawn}
+use Rattle.solve_answer.proofs.Texts.{sought_solved, text_drawn, drawing_from_text}
 use Rattle.solve_answer.specs.contracts.Placed.{the_type}
 use Rattle.solve_answer.specs.declared.PlacingChecked.TheVariants.{Answers as Answered-so, Refused as PlacingRefused}
 
@@ -212,7 +212,7 @@ module _ {n : ℕ} {parents heads_low heads_high : List ℕ} (s : SheetTables n 
   drawing_drawn {k} {placing} {q} {old} {new} {m} h y e d =
       let t : text.Drawn (drawing s.graph (take s.graph.nodes placing)) m old new =
       subst (λ (j : ℕ). text.Drawn (drawing s.graph (take j placing)) m old new) nodes (d (drawable y e)) in
-      text_drawn h y e t.long t.bytes
+      drawing_from_text (text_drawn h y e t.long t.bytes)
 
   pub next_reading : {place last : ℕ} {old new : List ℕ} {r : Placed} → StretchCall s.graph n place old r last new → ReadingCall s.graph place old r last new
   next_reading {place} {last} {old} {new} {r} x =

@@ -1,4 +1,5 @@
 -- A text of a reading, from the search for the reading: 9 and 11 are passed on, and a reading that was found is a solved form.
+-- The call for a drawing is that for a text, with 1,024 bytes to lend.
 use Prim.Native.Nat.{ℕ, ◌-◌, ◌≤◌}
 use mathlib.Core.Path.{◌≡◌, sym, subst}
 use mathlib.Core.List.{List, ◌++◌}
@@ -6,12 +7,14 @@ use native.Mathlib.Omega.{arith}
 use lib.ListN.{length, take, drop}
 use Rattle.graph.specs.Graph.{Graph}
 use Rattle.graph.specs.Placing.{SolvedForm}
+use Rattle.format.specs.Drawing.{drawing}
 use Rattle.format.specs.declared.Refusal.{Refusal}
 use Rattle.format.specs.declared.Refusal.TheVariants.{NoReading as No-reading, NoSuchReading}
-use Rattle.solve_answer.specs.Calls.{Seeks, TextCall}
+use Rattle.solve_answer.specs.Calls.{Seeks, TextCall, DrawingCall}
 use Rattle.solve_answer.specs.Calls as calls
 use Rattle.solve_answer.specs.declared.Sought.{Sought}
 use Rattle.solve_answer.specs.declared.Sought.TheVariants.{Found, Refused as SoughtRefused}
+use Rattle.solve_answer.specs.declared.Drawn.{Drawn}
 use Rattle.solve_answer.specs.declared.Drawn.TheVariants.{Length, Refused as DrawnRefused}
 
 module _ {g : Graph} {k : ℕ} {placing : List ℕ} where
@@ -32,3 +35,16 @@ module _ {g : Graph} {k : ℕ} {placing : List ℕ} where
     text_drawn (calls.Seeks.beyond ps l some b) e long bytes = absurd (let z : ◌≡◌ {A = ℕ} 0 1 = cc in omega arith)
     text_drawn {q} {m} {new} (calls.Seeks.found ps l one most is) e long bytes =
         rw (long, bytes, is) (calls.TextCall.drawn ps enough l one most)
+
+module _ {g : Graph} {k : ℕ} {old new : List ℕ} {r : Drawn} where
+  pub drawing_from_text : TextCall 1024 (drawing g) g k old r new → DrawingCall g k old r new
+  drawing_from_text (calls.TextCall.small h) = calls.DrawingCall.small h
+  drawing_from_text (calls.TextCall.none h u) = calls.DrawingCall.none h u
+  drawing_from_text (calls.TextCall.beyond ps h l some b) = calls.DrawingCall.beyond ps h l some b
+  drawing_from_text (calls.TextCall.drawn ps h l one most) = calls.DrawingCall.drawn ps h l one most
+
+  pub text_from_drawing : DrawingCall g k old r new → TextCall 1024 (drawing g) g k old r new
+  text_from_drawing (calls.DrawingCall.small h) = calls.TextCall.small h
+  text_from_drawing (calls.DrawingCall.none h u) = calls.TextCall.none h u
+  text_from_drawing (calls.DrawingCall.beyond ps h l some b) = calls.TextCall.beyond ps h l some b
+  text_from_drawing (calls.DrawingCall.drawn ps h l one most) = calls.TextCall.drawn ps h l one most

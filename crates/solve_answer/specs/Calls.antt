@@ -83,6 +83,14 @@ pub data ConfigurationCall (g : Graph) (old : List ℕ) : Placed → List ℕ �
   none : {c : ℕ} {new : List ℕ} → 2 * g.nodes ≤ length old → Unsolvable g → CycleWritten g old c new → ConfigurationCall g old (NoReading c) new
   configured : (q : List ℕ) → 2 * g.nodes ≤ length old → Solvable g → HandedOut g q → ConfigurationCall g old Done (q ++ drop g.nodes old)
 
+-- the drawing of the reading with the number k
+pub data DrawingCall (g : Graph) (k : ℕ) (old : List ℕ) : Drawn → List ℕ → Type 0 where
+  small : length old < 1024 → DrawingCall g k old (DrawnRefused SmallBuffer) old
+  none : 1024 ≤ length old → Unsolvable g → DrawingCall g k old (DrawnRefused No-reading) old
+  beyond : (ps : List (List ℕ)) → 1024 ≤ length old → Listing g ps → 0 < length ps → (k ≡ 0) ⊎ (reach ps < k) → DrawingCall g k old (DrawnRefused NoSuchReading) old
+  drawn : (ps : List (List ℕ)) → 1024 ≤ length old → Listing g ps → 0 < k → k ≤ reach ps
+      → DrawingCall g k old (Length (length (drawing g (entry ps (k - 1))))) (drawing g (entry ps (k - 1)) ++ drop (length (drawing g (entry ps (k - 1)))) old)
+
 -- the reading with the number k, in the first n bytes of a table of its own: 9, 11
 pub data Seeks (g : Graph) (k : ℕ) (placing : List ℕ) : Sought → Type 0 where
   none : Unsolvable g → Seeks g k placing (SoughtRefused No-reading)
@@ -96,10 +104,6 @@ pub data TextCall (least : ℕ) (text : List ℕ → List ℕ) (g : Graph) (k : 
   beyond : (ps : List (List ℕ)) → least ≤ length old → Listing g ps → 0 < length ps → (k ≡ 0) ⊎ (reach ps < k) → TextCall least text g k old (DrawnRefused NoSuchReading) old
   drawn : (ps : List (List ℕ)) → least ≤ length old → Listing g ps → 0 < k → k ≤ reach ps
       → TextCall least text g k old (Length (length (text (entry ps (k - 1))))) (text (entry ps (k - 1)) ++ drop (length (text (entry ps (k - 1)))) old)
-
--- "1,024 for a drawing"
-abbrev pub DrawingCall : Graph → ℕ → List ℕ → Drawn → List ℕ → Type 0
-DrawingCall g = TextCall 1024 (drawing g) g
 
 -- 02, Five: "then the drawing's, with 2,048 bytes to lend", of what a labelled sheet says
 abbrev pub TermCall : Content → ℕ → List ℕ → Drawn → List ℕ → Type 0

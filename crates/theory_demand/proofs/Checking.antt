@@ -44,7 +44,7 @@ nodes_determined (accepted s) r r' e e' = e ∙ sym e'
 
 -- the number told is the grown one
 pub nodes_grown : (bs : List ℕ) (s : Content) (r : Measured) → outcome bs ≡ accepted s → NodesOf (outcome bs) r → r ≡ Nodes (grown s.written).nodes
-nodes_grown bs s r e n = subst (λ (o : Outcome). NodesOf o r) e n ∙ ap (λ (g : Graph). Nodes g.nodes) (accepted_grown Plain bs s e)
+nodes_grown bs s r e n = subst (λ (o : Outcome). NodesOf o r) e n ∙ ap (λ (g : Graph). Nodes g.nodes) (accepted_grown bs s e)
 
 pub check_cycle_determined : (o : Outcome) (cycle : List ℕ) (r r' : CycleChecked) → CycleOf o cycle r → CycleOf o cycle r' → r ≡ r'
 check_cycle_determined (refused why) cycle r r' e e' = e ∙ sym e'

@@ -9,7 +9,6 @@ use Rattle.graph.specs.Graph.{Graph, grown}
 use Rattle.format.specs.Sheet.{Labels, Content, Outcome, outcome, accepted}
 use Rattle.graph.specs.Placing.{Below, Contains}
 use Rattle.graph.specs.Order.{Listing, ExactlyOne}
-use Rattle.format.specs.declared.Form.TheVariants.{Plain}
 use Rattle.theory_format.proofs.Spelling.{accepted_grown, accepted_well_formed}
 use Rattle.theory_forest.specs.Shape.{Shaped}
 use Rattle.theory_forest.proofs.Shape.{well_formed_shaped}
@@ -54,4 +53,4 @@ of_meaning bs x e =
 
 -- 02, Two: "the mission's third demand speaks of the grown graph", that of the nodes and edges written
 pub demand_3 : (bs : List ℕ) (x : Content) → outcome bs ≡ accepted x → Demand3 bs (grown x.written)
-demand_3 bs x e = subst (Demand3 bs) (accepted_grown Plain bs x e) (of_meaning bs x e)
+demand_3 bs x e = subst (Demand3 bs) (accepted_grown bs x e) (of_meaning bs x e)

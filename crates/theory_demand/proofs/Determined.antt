@@ -14,7 +14,8 @@ use Rattle.theory_forest.specs.Shape.{Shaped}
 use Rattle.theory_list.proofs.Readings.{listing_unique}
 use Rattle.theory_rule1.proofs.Ending.{rule1_function}
 use Rattle.solve_answer.proofs.Answering.{has_none, reaches}
-use Rattle.solve_answer.specs.Calls.{reach, placed_number, Counts, ReadingCall, ConfigurationCall, TextCall}
+use Rattle.solve_answer.proofs.Texts.{text_from_drawing}
+use Rattle.solve_answer.specs.Calls.{reach, placed_number, Counts, ReadingCall, ConfigurationCall, DrawingCall, TextCall}
 use Rattle.solve_answer.specs.declared.Counted.{Counted}
 use Rattle.solve_answer.specs.declared.Counted.TheVariants.{Readings}
 use Rattle.solve_answer.specs.declared.Placed.{Placed}
@@ -100,6 +101,9 @@ module _ {g : Graph} (s : Shaped g) where
         ap (λ (z : List (List ℕ)). Length (length (text (entry z (k - 1))))) e,
         ap (λ (z : List (List ℕ)). text (entry z (k - 1)) ++ drop (length (text (entry z (k - 1)))) old) e,
       )
+
+  pub drawing_determined : {k : ℕ} {old new new' : List ℕ} {r r' : Drawn} → DrawingCall g k old r new → DrawingCall g k old r' new' → (r ≡ r') × (new ≡ new')
+  drawing_determined d d' = text_determined (text_from_drawing d) (text_from_drawing d')
 
 -- The second promise of each call fixes the number: one condition is the first to hold, or none does.
 

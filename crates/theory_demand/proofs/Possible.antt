@@ -15,6 +15,7 @@ use borrow.Author.Tests.{eqb-true, leb-true, leb-false}
 use Rattle.base_finite.specs.Below.{all}
 use Rattle.base_finite.proofs.Laws.{by_bool, and_both}
 use Rattle.graph.specs.Graph.{Graph}
+use Rattle.format.specs.Drawing.{drawing}
 use Rattle.format.specs.Sheet.{Content, Outcome, accepted, outcome}
 use Rattle.graph.specs.Placing.{Unsolvable}
 use Rattle.graph.specs.Order.{entry}
@@ -29,7 +30,8 @@ use Rattle.theory_rule1.proofs.Ending.{rule1_ends}
 use Rattle.theory_refutes.proofs.Cycles.{joined_below, CycleFacts, cycle_facts, hypernormal_cycle_lem}
 use Rattle.theory_cycle.proofs.Theorem62.{unsolvable_cycle}
 use Rattle.solve_answer.proofs.Answering.{some_listed}
-use Rattle.solve_answer.specs.Calls.{reach, CycleWritten, Counts, ReadingCall, ConfigurationCall, TextCall}
+use Rattle.solve_answer.proofs.Texts.{drawing_from_text}
+use Rattle.solve_answer.specs.Calls.{reach, CycleWritten, Counts, ReadingCall, ConfigurationCall, DrawingCall, TextCall}
 use Rattle.solve_answer.specs.declared.Counted.{Counted}
 use Rattle.solve_answer.specs.declared.Placed.{Placed}
 use Rattle.solve_answer.specs.declared.Drawn.{Drawn}
@@ -129,6 +131,9 @@ module _ (g : Graph) (s : Shaped g) where
       (λ b. (_, _, TextCall.beyond (listed g) f l (some_listed g s o) (inr (omega arith))))))
       (λ u. (_, _, TextCall.none f u)))
       (λ f. (_, _, TextCall.small (omega arith)))
+
+  pub drawing_possible : (k : ℕ) (old : List ℕ) → (r : Drawn) × (new : List ℕ) × DrawingCall g k old r new
+  drawing_possible k old = let x = text_possible 1024 (drawing g) k old in (x.0, x.1, drawing_from_text x.2)
 
 -- the buffers that the calls are lent
 abbrev pub buffers : List Call → List (List ℕ)

@@ -15,7 +15,7 @@ use Rattle.theory_forest.specs.Shape.{Shaped}
 use Rattle.theory_forest.proofs.Forests.{hanging_solved, placing_length}
 use Rattle.theory_list.proofs.Readings.{solvable_reading}
 use Rattle.theory_rule1.proofs.Ending.{rule1_configuration}
-use Rattle.solve_answer.specs.Calls.{count_number, placed_number, drawn_number, Counts, ReadingCall, ConfigurationCall, TextCall, DrawingCall}
+use Rattle.solve_answer.specs.Calls.{count_number, placed_number, drawn_number, Counts, ReadingCall, ConfigurationCall, DrawingCall}
 use Rattle.solve_answer.specs.declared.Counted.{Counted}
 use Rattle.solve_answer.specs.declared.Placed.{Placed}
 use Rattle.solve_answer.specs.declared.Drawn.{Drawn}
@@ -55,10 +55,10 @@ configuration_refuses (ConfigurationCall.none f u c) h = refusing refl u
 configuration_refuses (ConfigurationCall.configured q f o d) h = (λ e. absurd (omega arith), λ n. absurd (solved_hangs n o))
 
 pub drawing_refuses : {g : Graph} {k : ℕ} {old new : List ℕ} {r : Drawn} → DrawingCall g k old r new → 1024 ≤ length old → (drawn_number r ≡ as_no_reading) ↔ NoHanging g
-drawing_refuses (TextCall.small f) h = absurd (omega arith)
-drawing_refuses (TextCall.none f u) h = refusing refl u
-drawing_refuses (TextCall.beyond ps f l some b) h = reading_there (λ e. omega arith) l some
-drawing_refuses (TextCall.drawn ps f l b c) h = reading_there (λ e. omega arith) l (omega arith)
+drawing_refuses (DrawingCall.small f) h = absurd (omega arith)
+drawing_refuses (DrawingCall.none f u) h = refusing refl u
+drawing_refuses (DrawingCall.beyond ps f l some b) h = reading_there (λ e. omega arith) l some
+drawing_refuses (DrawingCall.drawn ps f l b c) h = reading_there (λ e. omega arith) l (omega arith)
 
 pub reading_cycle : {g : Graph} {m m' : ℕ} {old new : List ℕ} {r : Placed} → ReadingCall g m old r m' new → placed_number r ≡ as_no_reading → Carries g r old new
 reading_cycle (ReadingCall.small f) e = absurd (omega arith)

@@ -410,14 +410,18 @@ accepted_spells f bs s e =
     })
 
 -- 02, Two: what a sheet means is what it writes, grown
-pub accepted_grown : (f : Form) (bs : List ℕ) (s : Content) → outcome_of f bs ≡ accepted s → s.graph ≡ grown s.written
-accepted_grown f bs s e = ap (λ (x : Content). x.graph) (accepted_spells f bs s e).means
+pub meant_grown : (f : Form) (bs : List ℕ) (s : Content) → outcome_of f bs ≡ accepted s → s.graph ≡ grown s.written
+meant_grown f bs s e = ap (λ (x : Content). x.graph) (accepted_spells f bs s e).means
 
 pub meant_well_formed : (f : Form) (bs : List ℕ) (s : Content) → outcome_of f bs ≡ accepted s → WellFormed s.graph
 meant_well_formed f bs s e =
-    subst WellFormed (sym (accepted_grown f bs s e)) (grown_well_formed s.written (accepted_spells f bs s e).well_written)
+    subst WellFormed (sym (meant_grown f bs s e)) (grown_well_formed s.written (accepted_spells f bs s e).well_written)
 
 -- of a plain sheet
+
+pub accepted_grown : (bs : List ℕ) (s : Content) → outcome bs ≡ accepted s → s.graph ≡ grown s.written
+accepted_grown bs s e = meant_grown Plain bs s e
+
 pub accepted_well_formed : (bs : List ℕ) (s : Content) → outcome bs ≡ accepted s → WellFormed s.graph
 accepted_well_formed bs s e = meant_well_formed Plain bs s e
 

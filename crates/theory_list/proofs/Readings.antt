@@ -177,6 +177,9 @@ module _ {g : Graph} {ps : List (List ℕ)} (x : Lists g ps) (s : Shaped g) wher
         in_order = lists_ordered x s;
       }
 
+pub listed_solved : (g : Graph) → Shaped g → (i : ℕ) → i < length (listed g) → SolvedForm g (entry (listed g) i)
+listed_solved g s = lists_solved (listed_lists g s) s
+
 pub one_below : (g : Graph) → Shaped g → (p : List ℕ) → SolvedForm g p → ExactlyOne (λ q. Contains (Below g p) (Below g q)) (listed g)
 one_below g s p f = lists_one (listed_lists g s) s p f
 

@@ -3,7 +3,7 @@ use mathlib.Core.Path.{refl}
 use Rattle.sheet_decode.proofs.Answers.{answered_refused}
 use Rattle.solve_start.proofs.Accepted.{sheet_of, tables_of}
 use Rattle.theory_forest.proofs.Shape.{well_formed_shaped}
-use Rattle.counter.proofs.Numbers.{text_numbered}
+use Rattle.counter.proofs.Numbers.{drawing_numbered}
 use Rattle.counter.proofs.drawing.Goals as goal
 
 pub drawing_of-requires : goal.drawing_of-requires
@@ -19,4 +19,4 @@ pub returns-in-Accepted : goal.returns-in-Accepted
 returns-in-Accepted c = let parts = let r = c.read-answer in
     let x = sheet_of c.args.sheet.now r.result r.ensures c.in-Accepted.is in
     let called = c.drawing_of.ensures (tables_of x) in
-    rw x.is (called, text_numbered x.content (well_formed_shaped x.tables.well_formed) called) in record { drawing_of = parts.0; drawing_numbered = parts.1 }
+    rw x.is (called, drawing_numbered x.content (well_formed_shaped x.tables.well_formed) called) in record { drawing_of = parts.0; drawing_numbered = parts.1 }

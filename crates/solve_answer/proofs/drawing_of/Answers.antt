@@ -2,13 +2,13 @@
 use mathlib.Core.Path.{refl}
 use native.Mathlib.Omega.{arith}
 use Rattle.solve_answer.specs.Calls as calls
-use Rattle.solve_answer.proofs.Texts.{text_refused}
+use Rattle.solve_answer.proofs.Texts.{text_refused, drawing_from_text}
 use Rattle.solve_answer.proofs.Answering.{drawable, drawing_drawn}
 use Rattle.solve_answer.proofs.drawing_of.Goals as goal
 
 pub returns-then-out-lt-DRAWING : goal.returns-then-out-lt-DRAWING
 returns-then-out-lt-DRAWING c =
-    λ s. calls.TextCall.small (omega (arith, c.if-out-lt-DRAWING.true))
+    λ s. calls.DrawingCall.small (omega (arith, c.if-out-lt-DRAWING.true))
 
 pub seek-requires : goal.seek-requires
 seek-requires c =
@@ -20,7 +20,7 @@ draw-requires c =
 
 pub returns-in-Refused : goal.returns-in-Refused
 returns-in-Refused c =
-    λ s. text_refused (omega (arith, c.if-out-lt-DRAWING.false)) (c.seek.ensures.seeks s) c.in-Refused.is
+    λ s. drawing_from_text (text_refused (omega (arith, c.if-out-lt-DRAWING.false)) (c.seek.ensures.seeks s) c.in-Refused.is)
 
 pub returns-in-Found : goal.returns-in-Found
 returns-in-Found c =
