@@ -1,4 +1,3 @@
-use Prim.Native.Nat.{◌-◌}
 use mathlib.Core.Path.{◌≡◌}
 use native.Mathlib.Omega.{arith}
 use Rattle.solve_closure.proofs.Edges.{adds_ext, adds_none, adds_more, link_none, link_more}

@@ -1,5 +1,4 @@
 use Rattle.base_tables.proofs.Parents.{inner_none, inner_more}
-use Prim.Native.Nat.{◌-◌}
 use mathlib.Core.Path.{◌≡◌, sym, ◌∙◌}
 use native.Mathlib.Omega.{arith}
 use Rattle.base_tables.proofs.trees.inner_nodes.Goals as goal
