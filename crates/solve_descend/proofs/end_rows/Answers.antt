@@ -16,7 +16,7 @@ put_at-requires c = omega (arith, c.loop-u.invariant.1, c.requires.3.long, c.req
 pub loop-u-preserved : goal.loop-u-preserved
 loop-u-preserved c =
     let l = c.loop-u in
-    (omega arith, omega (arith, l.invariant.1, c.put_at.ensures.long), blank_more l.u c.put_at.ensures l.invariant.2, λ g s ends of are. ends_more g l.u c.End-row.result (c.End-row.ensures g s ends of are) c.put_at.ensures (l.invariant.3 g s ends of are))
+    (omega arith, omega (arith, l.invariant.1, c.put_at.ensures.long), blank_more l.u c.put_at.ensures l.invariant.2, λ g s ends of are. ends_more g l.u c.end_row.result (c.end_row.ensures g s ends of are) c.put_at.ensures (l.invariant.3 g s ends of are))
 
 pub shape_of-rows : goal.shape_of-rows
 shape_of-rows c = c.loop-u.invariant.1
