@@ -1,5 +1,4 @@
 use lib.ListN.{get_or}
-use Prim.Native.Nat.{◌-◌}
 use mathlib.Core.Path.{◌≡◌, sym, ◌∙◌}
 use native.Mathlib.Omega.{arith}
 use Rattle.sheet_encode.proofs.Runs.{trees_none, trees_more, more_le}

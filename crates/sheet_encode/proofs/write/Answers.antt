@@ -91,5 +91,5 @@ returns c h =
     omega (arith, c.tree_edges.ensures, held_length a.n a.parent.now a.low.now a.high.now a.edges h) in
     let fits = le-ltb (length a.out.now) (length (tidy h.graph)) room in (
       rw fits (rw c.tree_edges.ensures (ap Length (held_length a.n a.parent.now a.low.now a.high.now a.edges h))),
-      rw fits (all_written a.n a.parent.now a.low.now a.high.now a.edges h a.out.now t.new.1.1.0 d.new.1.1.1.0 t.result d.result t.ensures d.ensures room),
+      rw fits (all_written a.n a.parent.now a.low.now a.high.now a.edges h a.out.now t.new.out d.new.out t.result d.result t.ensures d.ensures room),
     )

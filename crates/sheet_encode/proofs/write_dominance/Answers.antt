@@ -1,6 +1,6 @@
 use Rattle.sheet_encode.specs.Tidy.{row_bytes, dominance_part}
 use Rattle.sheet_encode.proofs.Runs.{dominance_part_none, dominance_part_more, dominance_part_longer}
-use Prim.Native.Nat.{◌+◌, ◌-◌}
+use Prim.Native.Nat.{◌+◌}
 use mathlib.Core.Path.{◌≡◌, refl, ◌∙◌}
 use native.Mathlib.Omega.{arith}
 use Rattle.base_finite.proofs.Stores.{room, written_none, written_more}

@@ -1,7 +1,7 @@
 use lib.ListN.{get_or}
 use Rattle.sheet_encode.specs.Tidy.{tree_bytes, tree_part}
 use Rattle.sheet_encode.proofs.Runs.{tree_part_none, tree_part_more, tree_part_longer}
-use Prim.Native.Nat.{◌+◌, ◌-◌}
+use Prim.Native.Nat.{◌+◌}
 use mathlib.Core.Path.{◌≡◌, refl, ◌∙◌}
 use native.Mathlib.Omega.{arith}
 use Rattle.base_finite.proofs.Stores.{room, written_none, written_more}

@@ -12,8 +12,7 @@ pub returns-in-Refused : goal.returns-in-Refused
 returns-in-Refused c =
     let r = c.read-answer in
     let a = c.args in
-    let v = c.verdict-1.given in
-    sheet_refused a.sheet.now r.result r.ensures v.0.0 a.out.now v.1
+    sheet_refused a.sheet.now r.result r.ensures c.in-Refused.why a.out.now c.in-Refused.is
 
 pub returns-in-Accepted : goal.returns-in-Accepted
 returns-in-Accepted c =

@@ -16,17 +16,14 @@ long = length-replicate {A = ℕ} 384 0
 pub returns-then-room-fragments : goal.returns-then-room-fragments
 returns-then-room-fragments c =
     let a = c.args in
-    let v = c.answer-in-Filled-1.given in
-    prepares_small zeros _ long a.room a.sheet.now c.fragment_table-answer.result c.fragment_table-answer.ensures v.0.0 v.1 c.if-room-fragments.true
+    prepares_small zeros _ long a.room a.sheet.now c.fragment_table-answer.result c.fragment_table-answer.ensures c.in-Filled.fragments c.in-Filled.is c.if-room-fragments.true
 
 pub returns-in-Refused : goal.returns-in-Refused
 returns-in-Refused c =
     let a = c.args in
-    let v = c.answer-1.given in
-    prepares_refused zeros _ long a.room a.sheet.now c.fragment_table-answer.result c.fragment_table-answer.ensures v.0.0 v.1
+    prepares_refused zeros _ long a.room a.sheet.now c.fragment_table-answer.result c.fragment_table-answer.ensures c.in-Refused.why c.in-Refused.is
 
 pub returns-else-room-fragments : goal.returns-else-room-fragments
 returns-else-room-fragments c =
     let a = c.args in
-    let v = c.answer-in-Filled-1.given in
-    prepares_filled zeros _ long a.room a.sheet.now c.fragment_table-answer.result c.fragment_table-answer.ensures v.0.0 v.1 _ (search rules) c.if-room-fragments.false
+    prepares_filled zeros _ long a.room a.sheet.now c.fragment_table-answer.result c.fragment_table-answer.ensures c.in-Filled.fragments c.in-Filled.is _ (search rules) c.if-room-fragments.false
