@@ -28,13 +28,9 @@ use Rattle.base_tables.specs.declared.trees.Trees.{Trees}
 use Rattle.solve_closure.specs.Closing.{Links}
 use Rattle.check_placing.specs.Tests.{fits, placing_in, outside, downward_in, carried, again, single_in}
 
--- answers of a test that is asked the other way
-
-pub not_true : (b : Bool) → not b ≡ true → b ≡ false
+-- the answer of a test that is asked the other way
+not_true : (b : Bool) → not b ≡ true → b ≡ false
 not_true b e = sym (not_not b) ∙ ap not e
-
-pub not_false : (b : Bool) → not b ≡ false → b ≡ true
-not_false b e = sym (not_not b) ∙ ap not e
 
 -- the first n bytes of two lists
 

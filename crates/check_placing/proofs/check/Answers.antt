@@ -4,7 +4,6 @@ use mathlib.Core.Path.{sym, subst, ◌∙◌}
 use Rattle.theory_forest.proofs.Shape.{well_formed_shaped}
 use Rattle.base_tables.specs.Trees.{Parents}
 use Rattle.base_tables.proofs.TreeLaws.{tree_of}
-use Rattle.check_placing.proofs.Shapes.{not_true, not_false}
 use Rattle.check_placing.proofs.Verdicts.{links_here, placed_here, not_placing, reads_here, is_solved, not_solved, noes_answered, yes_answered}
 use borrow.Author.Rules.{rules}
 use Rattle.check_placing.proofs.check.Goals as goal
@@ -16,14 +15,14 @@ returns-then-not-is_placing c =
     let is = c.is_placing in
     λ g edges t.
     let e = r.ensures.trees_of g (well_formed_shaped t.well_formed) (tree_of t) in
-    noes_answered g _ c.noes.result c.noes.ensures (not_placing r.result r.ensures.bounded.1 a.placing.now c.requires.2 e (sym is.ensures ∙ not_true is.result c.if-not-is_placing.true))
+    noes_answered g _ c.noes.result c.noes.ensures (not_placing r.result r.ensures.bounded.1 a.placing.now c.requires.2 e (sym is.ensures ∙ c.if-not-is_placing.true))
 
 pub placing_rows-requires : goal.placing_rows-requires
 placing_rows-requires c =
     let a = c.args in
     let r = c.read_trees-trees in
     let is = c.is_placing in
-    (c.requires.0, links_here r.result r.ensures.bounded.1 a.placing.now c.requires.2 (sym is.ensures ∙ not_false is.result c.if-not-is_placing.false), search rules)
+    (c.requires.0, links_here r.result r.ensures.bounded.1 a.placing.now c.requires.2 (sym is.ensures ∙ c.if-not-is_placing.false), search rules)
 
 pub returns-then-not-solved : goal.returns-then-not-solved
 returns-then-not-solved c =
@@ -33,14 +32,14 @@ returns-then-not-solved c =
     let all = c.solved in
     λ g edges t.
     let e = r.ensures.trees_of g (well_formed_shaped t.well_formed) (tree_of t) in
-    let placed = placed_here r.result r.ensures.bounded.1 a.placing.now c.requires.2 e (sym is.ensures ∙ not_false is.result c.if-not-is_placing.false) in
+    let placed = placed_here r.result r.ensures.bounded.1 a.placing.now c.requires.2 e (sym is.ensures ∙ c.if-not-is_placing.false) in
     let rows = c.placing_rows.ensures g _ _ edges t placed in
-    noes_answered g _ c.noes-then-not-solved.result c.noes-then-not-solved.ensures (not_solved t rows placed (sym all.ensures ∙ not_true all.result c.if-not-solved.true))
+    noes_answered g _ c.noes-then-not-solved.result c.noes-then-not-solved.ensures (not_solved t rows placed (sym all.ensures ∙ c.if-not-solved.true))
 
 pub reading-requires : goal.reading-requires
 reading-requires c = let a = c.args in
-    let r = (c.read_trees-trees.ensures.bounded, c.read_trees-trees.ensures.trees_of) in
-    record { parents = (subst (λ (k : ℕ). Parents k a.parent.now) (sym r.0.1) c.requires.0, c.requires.1, r.0.0); long = (search rules, search rules) }
+    let r = c.read_trees-trees.ensures.bounded in
+    record { parents = (subst (λ (k : ℕ). Parents k a.parent.now) (sym r.1) c.requires.0, c.requires.1, r.0); long = (search rules, search rules) }
 
 pub returns : goal.returns
 returns c =
@@ -51,8 +50,8 @@ returns c =
     λ g edges t.
     let s = well_formed_shaped t.well_formed in
     let e = r.ensures.trees_of g s (tree_of t) in
-    let placed = placed_here r.result r.ensures.bounded.1 a.placing.now c.requires.2 e (sym is.ensures ∙ not_false is.result c.if-not-is_placing.false) in
+    let placed = placed_here r.result r.ensures.bounded.1 a.placing.now c.requires.2 e (sym is.ensures ∙ c.if-not-is_placing.false) in
     let rows = c.placing_rows.ensures g _ _ edges t placed in
-    let f = is_solved t rows placed (sym all.ensures ∙ not_false all.result c.if-not-solved.false) in
+    let f = is_solved t rows placed (sym all.ensures ∙ c.if-not-solved.false) in
     let reads = reads_here r.result r.ensures.bounded.1 a.placing.now c.reading.result (λ tables under. c.reading.ensures g edges tables e under) t rows f in
     yes_answered g a.n s t.nodes a.placing.now placed f c.single.result c.reading.result c.single.ensures reads

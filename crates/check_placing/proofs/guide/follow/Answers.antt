@@ -1,7 +1,6 @@
 use native.Mathlib.Omega.{arith}
 use mathlib.Core.Path.{refl}
 use native.Mathlib.Nat.{mul-le-mul}
-use Rattle.check_placing.proofs.Shapes.{not_true, not_false}
 use Rattle.check_placing.proofs.Guides.{not_over, reads}
 use Rattle.check_placing.proofs.guide.follow.Goals as goal
 
@@ -27,7 +26,7 @@ pub returns-then-not-turn : goal.returns-then-not-turn
 returns-then-not-turn c =
     let l = c.loop-left in
     λ g st s f.
-    let end = (c.turn.ensures g _ l.left (l.invariant.2 g st)).1 (not_true c.turn.result c.if-not-turn.true) in
+    let end = (c.turn.ensures g _ l.left (l.invariant.2 g st)).1 c.if-not-turn.true in
     reads c.settles.result end (c.settles.ensures end.graph end.trees end.given) s f
 
 pub loop-left-preserved : goal.loop-left-preserved
@@ -35,7 +34,7 @@ loop-left-preserved c =
     let l = c.loop-left in (
       omega (arith, l.invariant.0, c.turn.auto),
       omega arith,
-      λ g st. (c.turn.ensures g _ l.left (l.invariant.2 g st)).0 (not_false c.turn.result c.if-not-turn.false),
+      λ g st. (c.turn.ensures g _ l.left (l.invariant.2 g st)).0 c.if-not-turn.false,
     )
 
 pub shape_of-sets : goal.shape_of-sets

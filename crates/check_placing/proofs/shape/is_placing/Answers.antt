@@ -1,9 +1,7 @@
-use Prim.Native.Nat.{◌-◌}
 use mathlib.Core.Path.{sym, ◌∙◌}
-use mathlib.Core.Bool.{true}
 use native.Mathlib.Omega.{arith}
 use borrow.Author.Count.{below_none, below_more}
-use Rattle.check_placing.proofs.Shapes.{not_true, not_false, placing_every, placing_fails}
+use Rattle.check_placing.proofs.Shapes.{placing_every, placing_fails}
 use Rattle.check_placing.proofs.shape.is_placing.Goals as goal
 
 pub loop-v-init : goal.loop-v-init
@@ -13,13 +11,13 @@ pub returns-then-not-fits : goal.returns-then-not-fits
 returns-then-not-fits c =
     let a = c.args in
     let l = c.loop-v in
-    let f = c.fits2 in
-    sym (placing_fails a.trees a.placing.now l.v (omega arith) (sym f.ensures ∙ not_true f.result c.if-not-fits.true))
+    let f = c.fits in
+    sym (placing_fails a.trees a.placing.now l.v (omega arith) (sym f.ensures ∙ c.if-not-fits.true))
 
 pub loop-v-preserved : goal.loop-v-preserved
 loop-v-preserved c =
-    let f = c.fits2 in
-    (omega arith, below_more _ _ c.loop-v.invariant.1 (sym f.ensures ∙ not_false f.result c.if-not-fits.false))
+    let f = c.fits in
+    (omega arith, below_more _ _ c.loop-v.invariant.1 (sym f.ensures ∙ c.if-not-fits.false))
 
 pub returns : goal.returns
 returns c =

@@ -1,4 +1,3 @@
-use Prim.Native.Nat.{◌-◌}
 use mathlib.Core.Path.{◌≡◌, sym, ap, ◌∙◌}
 use mathlib.Core.Bool.{true, false, not}
 use native.Mathlib.Omega.{arith}
@@ -17,7 +16,7 @@ returns-then-not-is_empty c =
     let a = c.args in
     let l = c.loop-v in
     let both = c.intersection in
-    let found : any 128 (mem both.result) ≡ true = sym (not_not (any 128 (mem both.result))) ∙ ap not (sym c.is_empty.ensures) ∙ c.if-not-is_empty.true in
+    let found : any 128 (mem both.result) ≡ true = sym (not_not (any 128 (mem both.result))) ∙ ap not (sym c.is_empty.ensures) ∙ ap not c.if-not-is_empty.true in
     sym (single_fails a.n a.placing.now l.v (omega arith)
     (sym (used_again l.v a.placing.now l.used c.of_byte-leaf.result both.result l.invariant.1 c.of_byte-leaf.ensures both.ensures) ∙ found))
 
@@ -27,7 +26,7 @@ loop-v-preserved c =
     let l = c.loop-v in
     let leaf = c.of_byte-leaf in
     let both = c.intersection in
-    let none_found : any 128 (mem both.result) ≡ false = sym (not_not (any 128 (mem both.result))) ∙ ap not (sym c.is_empty.ensures) ∙ c.if-not-is_empty.false in (
+    let none_found : any 128 (mem both.result) ≡ false = sym (not_not (any 128 (mem both.result))) ∙ ap not (sym c.is_empty.ensures) ∙ ap not c.if-not-is_empty.false in (
       omega arith,
       used_more l.v a.placing.now l.used leaf.result c.union-used.result l.invariant.1 leaf.ensures c.union-used.ensures,
       below_more _ _ l.invariant.2 (sym (used_again l.v a.placing.now l.used leaf.result both.result l.invariant.1 leaf.ensures both.ensures) ∙ none_found),
