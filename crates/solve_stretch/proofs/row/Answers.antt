@@ -6,7 +6,10 @@ use Rattle.solve_stretch.proofs.Placings.{row_first, row_rest}
 use Rattle.solve_stretch.proofs.row.Goals as goal
 
 pub returns : goal.returns
-returns c = let a = c.args in
-    let e = (c.read_off.ensures.out_unchanged, c.read_off.ensures.out_after) in
+returns c =
+    let a = c.args in
     let h : a.at ≤ length a.out.now = omega (arith, c.requires.2) in
-    record { out_unchanged = row_rest a.at a.trees.n a.out.now _ h e.0; out_after = λ g ends x. row_first a.at a.trees.n a.out.now _ h _ (e.1 g ends x) }
+    record {
+      out_unchanged = row_rest a.at a.trees.n a.out.now _ h c.read_off.ensures.out_unchanged;
+      out_after = λ g ends x. row_first a.at a.trees.n a.out.now _ h _ (c.read_off.ensures.out_after g ends x);
+    }
