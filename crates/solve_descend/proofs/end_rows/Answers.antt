@@ -1,4 +1,3 @@
-use Prim.Native.Nat.{◌-◌}
 use mathlib.Core.Path.{refl}
 use native.Mathlib.Omega.{arith}
 use Rattle.solve_branch.proofs.Ends.{ends_none, ends_more, blank_after, blank_more, ends_all}

@@ -1,5 +1,5 @@
 -- A half that has no solved form is left as it was entered; each turn leaves one decision at least.
-use Prim.Native.Nat.{ℕ, ◌-◌, ◌≤◌, ◌<◌}
+use Prim.Native.Nat.{ℕ, ◌≤◌, ◌<◌}
 use mathlib.Core.Path.{◌≡◌}
 use lib.ListN.{length}
 use Rattle.graph.specs.Graph.{Graph}

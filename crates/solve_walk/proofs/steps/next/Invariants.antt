@@ -1,5 +1,5 @@
 -- Out of the reading; a half is entered once all before it are passed, and the first that has a reading ends the search.
-use Prim.Native.Nat.{ℕ, ◌-◌}
+use Prim.Native.Nat.{ℕ}
 use mathlib.Core.Path.{◌≡◌}
 use lib.ListN.{length}
 use Rattle.graph.specs.Graph.{Graph}
