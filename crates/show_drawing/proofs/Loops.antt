@@ -1,5 +1,5 @@
 -- The loop that draws a run: what it has drawn before x, the room for the next text, and what stands before that.
-use Prim.Native.Nat.{ℕ, ◌+◌, ◌-◌, ◌≤◌, ◌<◌}
+use Prim.Native.Nat.{ℕ, ◌+◌, ◌≤◌, ◌<◌}
 use mathlib.Core.Path.{◌≡◌, refl, ◌∙◌}
 use mathlib.Core.List.{List, [], ◌∷◌, ◌++◌}
 use mathlib.Core.Bool.{Bool, true, false, cond}
@@ -139,7 +139,3 @@ joint_is {f} {size} {t} {n} {old} {from} {new} {pen} {x} w some first =
     (λ (e : any x t ≡ false).
     let none : length (run [] (59 ∷ []) f t x) ≡ 0 = rw (run_empty [] (59 ∷ []) f t x e) in
     rw (e, eq-eqb pen.at 0 (omega arith)))
-
--- one less is left to pass
-pub less_left : {x n : ℕ} → x < n → n - (x + 1) < n - x
-less_left h = omega arith
