@@ -20,7 +20,7 @@ returns c =
     ready
     (record {
       listed = refl;
-      long = omega (arith, c.begin-begun.auto, length-replicate {0} {A = ℕ} 128 0);
+      long = omega (arith, c.begin-begun.auto.owner, length-replicate {0} {A = ℕ} 128 0);
       walkable = (c.begin-begun.ensures.started (record { graph = s.graph; edges = _; tables = t })).solved (not-false _ c.if-not-begun.false);
     })
     refl

@@ -20,9 +20,14 @@ overflow_mul-at c =
 
 pub loop-k-init : goal.loop-k-init
 loop-k-init c =
-    let p = (c.requires.n_bound, c.requires.held) in
-    let old : List ℕ = c.args.out.now in
-    ((p.0.1, omega arith, p.0.2), refl, p.1.1, refl, λ s. subst (λ (bs : List ℕ). Written old 0 bs old 0) (sym (lines_none s.graph c.args.done)) (written_none old 0))
+    let p = c.requires.n_bound in
+    let old : List ℕ = c.args.out.now in (
+      (p.1, omega arith, p.2),
+      refl,
+      c.requires.held.1,
+      refl,
+      λ s. subst (λ (bs : List ℕ). Written old 0 bs old 0) (sym (lines_none s.graph c.args.done)) (written_none old 0),
+    )
 
 pub overflow_add-k : goal.overflow_add-k
 overflow_add-k c = omega (arith, c.loop-k.invariant.0, c.requires.n_bound.3)
@@ -52,7 +57,7 @@ overflow_add-at c =
     omega (arith, row_next _ _ _ _ l.invariant.0.0 l.invariant.1, mul-le-mul few c.requires.n_bound.0)
 
 pub overflow_sub-out : goal.overflow_sub-out
-overflow_sub-out c = omega (arith, c.reading_line-end.ensures.upper_bound, c.reading_line-end.auto)
+overflow_sub-out c = omega (arith, c.reading_line-end.ensures.upper_bound, c.reading_line-end.auto.out)
 
 pub returns-then-out-end-lt-LINE : goal.returns-then-out-end-lt-LINE
 returns-then-out-end-lt-LINE c = let l = c.loop-k in
