@@ -221,13 +221,13 @@ module _ {n : ℕ} {parents heads_low heads_high : List ℕ} (s : SheetTables n 
   -- the configuration, from the call for reading 1
 
   module _ {old new : List ℕ} {m : Placed} {place : ℕ} (x : ReadingCall s.graph 0 old m place new) where
-    refused_too : (q : Placed) (i : ℕ) (left : List ℕ) → ((tag_of the_type q ≡ 1) ⊎ (tag_of the_type q ≡ 2)) → ReadingCall s.graph 0 old q i left → ConfigurationCall s.graph old q left
+    refused_too : (q : Placed) (i : ℕ) (left : List ℕ) → (q ≡ Done → ⊥) → ReadingCall s.graph 0 old q i left → ConfigurationCall s.graph old q left
     refused_too q i left o (calls.ReadingCall.small h) = calls.ConfigurationCall.small h
     refused_too q i left o (calls.ReadingCall.none {c} h u w) = calls.ConfigurationCall.none {c = c} h u w
     refused_too q i left o (calls.ReadingCall.beyond ps h l some over) = absurd (omega (arith, some, over))
-    refused_too q i left o (calls.ReadingCall.read ps h l some) = absurd (⊎_elim (λ e. omega (arith, e)) (λ e. omega (arith, e)) o)
+    refused_too q i left o (calls.ReadingCall.read ps h l some) = absurd (o refl)
 
-    pub passed_on : ((tag_of the_type m ≡ 1) ⊎ (tag_of the_type m ≡ 2)) → ConfigurationCall s.graph old m new
+    pub passed_on : (m ≡ Done → ⊥) → ConfigurationCall s.graph old m new
     passed_on o = refused_too m place new o x
 
     first_read : (q : Placed) (i : ℕ) (left : List ℕ) → q ≡ Done → ReadingCall s.graph 0 old q i left

@@ -36,14 +36,14 @@ module _ {g : Graph} {k : ℕ} {placing : List ℕ} where
     text_drawn {q} {m} {new} (calls.Seeks.found ps l one most is) e long bytes =
         rw (long, bytes, is) (calls.TextCall.drawn ps enough l one most)
 
-module _ {g : Graph} {k : ℕ} {old new : List ℕ} {r : Drawn} where
-  pub drawing_from_text : TextCall 1024 (drawing g) g k old r new → DrawingCall g k old r new
+module _ {g : Graph} {k : ℕ} {old : List ℕ} where
+  pub drawing_from_text : {r : Drawn} {new : List ℕ} → TextCall 1024 (drawing g) g k old r new → DrawingCall g k old r new
   drawing_from_text (calls.TextCall.small h) = calls.DrawingCall.small h
   drawing_from_text (calls.TextCall.none h u) = calls.DrawingCall.none h u
   drawing_from_text (calls.TextCall.beyond ps h l some b) = calls.DrawingCall.beyond ps h l some b
   drawing_from_text (calls.TextCall.drawn ps h l one most) = calls.DrawingCall.drawn ps h l one most
 
-  pub text_from_drawing : DrawingCall g k old r new → TextCall 1024 (drawing g) g k old r new
+  pub text_from_drawing : {r : Drawn} {new : List ℕ} → DrawingCall g k old r new → TextCall 1024 (drawing g) g k old r new
   text_from_drawing (calls.DrawingCall.small h) = calls.TextCall.small h
   text_from_drawing (calls.DrawingCall.none h u) = calls.TextCall.none h u
   text_from_drawing (calls.DrawingCall.beyond ps h l some b) = calls.TextCall.beyond ps h l some b

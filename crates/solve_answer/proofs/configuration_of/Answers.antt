@@ -17,4 +17,4 @@ returns-in-Done c =
 
 pub returns-in_default : goal.returns-in_default
 returns-in_default c =
-    λ s. passed_on s (next_reading s (c.readings_of-handed.ensures s)) c.in_default.in_default-own.keys2
+    λ s. passed_on s (next_reading s (c.readings_of-handed.ensures s)) c.in_default.not-Done

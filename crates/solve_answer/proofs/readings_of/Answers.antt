@@ -23,7 +23,7 @@ witness-pairs-requires c =
 
 pub returns-then-not-begun : goal.returns-then-not-begun
 returns-then-not-begun c =
-    λ s. no_reading s _ _ _ _ _ (omega (arith, c.if-out-n.false)) ((c.begin-begun.ensures.started s).unsolved (not-true _ c.if-not-begun.true)) c.witness-pairs.ensures.within (search rules) c.witness-pairs.ensures.cycle.0 c.witness-pairs.ensures.cycle.1
+    λ s. no_reading s _ _ _ _ _ (omega (arith, c.if-out-n.false)) ((c.begin-begun.ensures.started s).unsolved (not-true _ c.if-not-begun.true)) c.witness-pairs.ensures.within (search rules) c.witness-pairs.ensures.cycle c.witness-pairs.ensures.rest
 
 pub slice_bounds-stretch-end-3 : goal.slice_bounds-stretch-end-3
 slice_bounds-stretch-end-3 c =
