@@ -13,12 +13,12 @@ pub returns : goal.returns
 returns c =
     λ g u.
     let w = c.refill-held.ensures.underway_2 g u in
-    let l = (c.fill_page-lines.ensures.bytes_in_bounds, c.fill_page-lines.ensures.written) in
+    let l = c.fill_page-lines.ensures in
     record {
       shown = record {
-        written = lines_from_there g w.1 c.fill_page-lines.result.last (l.1 (held_of w.0));
-        fits = omega (arith, l.0.0, c.fill_page-lines.auto);
+        written = lines_from_there g w.1 c.fill_page-lines.result.last (l.written (held_of w.0));
+        fits = omega (arith, l.bytes_in_bounds.0, c.fill_page-lines.auto.out);
       };
-      further = omega (arith, l.0.3 c.refill-held.ensures.done_lt_last, w.1);
-      underway = paged w.0 _ _ l.0.2 l.0.1 _ c.follows-more.ensures;
+      further = omega (arith, l.bytes_in_bounds.3 c.refill-held.ensures.done_lt_last, w.1);
+      underway = paged w.0 _ _ l.bytes_in_bounds.2 l.bytes_in_bounds.1 _ c.follows-more.ensures;
     }

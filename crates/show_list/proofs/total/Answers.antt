@@ -3,7 +3,7 @@ use Prim.Native.Nat.{ℕ, ◌<◌, min}
 use mathlib.Core.Path.{◌≡◌}
 use native.Mathlib.Omega.{arith}
 use lib.ListN.{length}
-use borrow.Author.Tests.{le-leb, not-true}
+use borrow.Author.Tests.{le-leb}
 use Rattle.graph.specs.Order.{limit, count_answer}
 use Rattle.graph.specs.declared.Count.TheVariants.{Exactly}
 use Rattle.theory_list.specs.Readings.{listed}
@@ -17,4 +17,4 @@ exactly all last e h =
 
 pub returns-then-not-more : goal.returns-then-not-more
 returns-then-not-more c =
-    λ x. exactly (length (listed x.walked.graph)) c.args.last (c.requires.last_value x (not-true c.args.more c.if-not-more.true)) c.if-last-lt-LAST.true
+    λ x. exactly (length (listed x.walked.graph)) c.args.last (c.requires.last_value x c.if-not-more.true) c.if-last-lt-LAST.true
