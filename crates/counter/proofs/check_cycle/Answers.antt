@@ -13,10 +13,12 @@ check-requires c =
     ((parents_table s).few, (parents_table s).long, (heads_long s).0, (heads_long s).1)
 
 pub returns-in-Refused : goal.returns-in-Refused
-returns-in-Refused c = let parts = let r = c.read-answer in
-    rw (answered_refused c.args.sheet.now r.result _ r.ensures c.in-Refused.is) (refl, refl) in record { cycle_of = parts.0; sheet_numbered = parts.1 }
+returns-in-Refused c =
+    let r = c.read-answer in
+    rw (answered_refused c.args.sheet.now r.result _ r.ensures c.in-Refused.is) (record { cycle_of = refl; sheet_numbered = refl })
 
 pub returns-in-Accepted : goal.returns-in-Accepted
-returns-in-Accepted c = let parts = let r = c.read-answer in
+returns-in-Accepted c =
+    let r = c.read-answer in
     let x = sheet_of c.args.sheet.now r.result r.ensures c.in-Accepted.is in
-    rw x.is (ap Answer (c.check.ensures x.content.graph r.result.graph.edges x.tables), refl) in record { cycle_of = parts.0; sheet_numbered = parts.1 }
+    rw x.is (record { cycle_of = ap Answer (c.check.ensures x.content.graph r.result.graph.edges x.tables); sheet_numbered = refl })

@@ -11,11 +11,13 @@ checked_placing-requires c =
     tables_of (sheet_of c.args.sheet.now r.result r.ensures c.in-Accepted.is)
 
 pub returns-in-Refused : goal.returns-in-Refused
-returns-in-Refused c = let parts = let r = c.read-answer in
-    rw (answered_refused c.args.sheet.now r.result _ r.ensures c.in-Refused.is) (refl, refl) in record { placing_of = parts.0; placing_numbered = parts.1 }
+returns-in-Refused c =
+    let r = c.read-answer in
+    rw (answered_refused c.args.sheet.now r.result _ r.ensures c.in-Refused.is) (record { placing_of = refl; placing_numbered = refl })
 
 pub returns-in-Accepted : goal.returns-in-Accepted
-returns-in-Accepted c = let parts = let r = c.read-answer in
+returns-in-Accepted c =
+    let r = c.read-answer in
     let x = sheet_of c.args.sheet.now r.result r.ensures c.in-Accepted.is in
     let called = c.checked_placing.ensures (tables_of x) in
-    rw x.is (called, placing_numbered x.content called) in record { placing_of = parts.0; placing_numbered = parts.1 }
+    rw x.is (record { placing_of = called; placing_numbered = placing_numbered x.content called })

@@ -12,11 +12,13 @@ drawing_of-requires c =
     tables_of (sheet_of c.args.sheet.now r.result r.ensures c.in-Accepted.is)
 
 pub returns-in-Refused : goal.returns-in-Refused
-returns-in-Refused c = let parts = let r = c.read-answer in
-    rw (answered_refused c.args.sheet.now r.result _ r.ensures c.in-Refused.is) ((refl, refl), refl) in record { drawing_of = parts.0; drawing_numbered = parts.1 }
+returns-in-Refused c =
+    let r = c.read-answer in
+    rw (answered_refused c.args.sheet.now r.result _ r.ensures c.in-Refused.is) (record { drawing_of = (refl, refl); drawing_numbered = refl })
 
 pub returns-in-Accepted : goal.returns-in-Accepted
-returns-in-Accepted c = let parts = let r = c.read-answer in
+returns-in-Accepted c =
+    let r = c.read-answer in
     let x = sheet_of c.args.sheet.now r.result r.ensures c.in-Accepted.is in
     let called = c.drawing_of.ensures (tables_of x) in
-    rw x.is (called, drawing_numbered x.content (well_formed_shaped x.tables.well_formed) called) in record { drawing_of = parts.0; drawing_numbered = parts.1 }
+    rw x.is (record { drawing_of = called; drawing_numbered = drawing_numbered x.content (well_formed_shaped x.tables.well_formed) called })

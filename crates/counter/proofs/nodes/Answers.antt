@@ -6,10 +6,12 @@ use Rattle.counter.specs.declared.Measured.TheVariants.{Nodes}
 use Rattle.counter.proofs.nodes.Goals as goal
 
 pub returns-in-Refused : goal.returns-in-Refused
-returns-in-Refused c = let parts = let r = c.read-answer in
-    rw (answered_refused c.args.sheet.now r.result _ r.ensures c.in-Refused.is) (refl, refl) in record { nodes_of = parts.0; sheet_numbered = parts.1 }
+returns-in-Refused c =
+    let r = c.read-answer in
+    rw (answered_refused c.args.sheet.now r.result _ r.ensures c.in-Refused.is) (record { nodes_of = refl; sheet_numbered = refl })
 
 pub returns-in-Accepted : goal.returns-in-Accepted
-returns-in-Accepted c = let parts = let r = c.read-answer in
+returns-in-Accepted c =
+    let r = c.read-answer in
     let x = sheet_of c.args.sheet.now r.result r.ensures c.in-Accepted.is in
-    rw x.is (ap Nodes x.tables.nodes, refl) in record { nodes_of = parts.0; sheet_numbered = parts.1 }
+    rw x.is (record { nodes_of = ap Nodes x.tables.nodes; sheet_numbered = refl })

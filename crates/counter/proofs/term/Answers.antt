@@ -12,9 +12,11 @@ term_of-requires c =
     meant_read c.args.sheet.now c.read_meant-answer.result c.read_meant-answer.ensures c.in-Accepted.is
 
 pub returns-in-Refused : goal.returns-in-Refused
-returns-in-Refused c = let parts = rw (meant_refused Labelled c.args.sheet.now c.read_meant-answer.result c.read_meant-answer.ensures _ c.in-Refused.is) ((refl, refl), refl) in record { term_of = parts.0; term_numbered = parts.1 }
+returns-in-Refused c =
+    rw (meant_refused Labelled c.args.sheet.now c.read_meant-answer.result c.read_meant-answer.ensures _ c.in-Refused.is) (record { term_of = (refl, refl); term_numbered = refl })
 
 pub returns-in-Accepted : goal.returns-in-Accepted
-returns-in-Accepted c = let parts = let m = meant_read c.args.sheet.now c.read_meant-answer.result c.read_meant-answer.ensures c.in-Accepted.is in
+returns-in-Accepted c =
+    let m = meant_read c.args.sheet.now c.read_meant-answer.result c.read_meant-answer.ensures c.in-Accepted.is in
     let called = c.term_of.ensures m in
-    rw m.is (called, text_numbered m.content (well_formed_shaped m.tables.well_formed) called) in record { term_of = parts.0; term_numbered = parts.1 }
+    rw m.is (record { term_of = called; term_numbered = text_numbered m.content (well_formed_shaped m.tables.well_formed) called })

@@ -6,4 +6,4 @@ use Rattle.counter.proofs.tidy.Goals as goal
 pub returns : goal.returns
 returns c = let call = c.tidy in
     let args = c.args in
-    record { tidies = call.ensures; tidy_numbered = tidy_numbered (outcome args.sheet.now) call.result args.out.now call.new.1.1.0 call.ensures }
+    record { tidies = call.ensures; tidy_numbered = tidy_numbered (outcome args.sheet.now) call.result args.out.now _ call.ensures }

@@ -12,11 +12,13 @@ readings_of-requires c = let r = c.read-answer in
     record { sheet_tables = tables_of (sheet_of c.args.sheet.now r.result r.ensures c.in-Accepted.is); n_le_room = λ h. (omega arith, omega (arith, h)) }
 
 pub returns-in-Refused : goal.returns-in-Refused
-returns-in-Refused c = let parts = let r = c.read-answer in
-    rw (answered_refused c.args.sheet.now r.result _ r.ensures c.in-Refused.is) ((refl, refl, refl), refl) in record { stretch_of = parts.0; reading_numbered = parts.1 }
+returns-in-Refused c =
+    let r = c.read-answer in
+    rw (answered_refused c.args.sheet.now r.result _ r.ensures c.in-Refused.is) (record { stretch_of = (refl, refl, refl); reading_numbered = refl })
 
 pub returns-in-Accepted : goal.returns-in-Accepted
-returns-in-Accepted c = let parts = let r = c.read-answer in
+returns-in-Accepted c =
+    let r = c.read-answer in
     let x = sheet_of c.args.sheet.now r.result r.ensures c.in-Accepted.is in
     let called = c.readings_of.ensures (tables_of x) in
-    rw (c.moved.ensures.0, c.moved.ensures.1, x.is) (called, stretch_numbered x.content (well_formed_shaped x.tables.well_formed) called) in record { stretch_of = parts.0; reading_numbered = parts.1 }
+    rw (c.moved.ensures.0, c.moved.ensures.1, x.is) (record { stretch_of = called; reading_numbered = stretch_numbered x.content (well_formed_shaped x.tables.well_formed) called })
