@@ -4,5 +4,5 @@ use Rattle.capi.proofs.bixtogan_reading.Goals as goal
 pub returns : goal.returns
 returns c =
     let next = c.next-next in
-    let put = (c.put_next.ensures.value, c.put_next.ensures.place_after, c.put_next.ensures.pairs_after) in
-    record { answer = next.result.answer; call = rw put.1.0 next.ensures.reading_of; number = put.0; value = put.1.1 }
+    let put = c.put_next.ensures in
+    record { answer = next.result.answer; call = rw put.place_after next.ensures.reading_of; number = put.value; value = put.pairs_after }
