@@ -19,7 +19,7 @@ use Rattle.counter.specs.declared.Measured.TheVariants.{Nodes, Refused as Measur
 use Rattle.counter.specs.declared.CycleChecked.{CycleChecked}
 use Rattle.counter.specs.declared.CycleChecked.TheVariants.{Answer, Refused as CycleRefused}
 use Rattle.solve_answer.specs.declared.PlacingChecked.{PlacingChecked}
-use Rattle.solve_answer.specs.declared.PlacingChecked.TheVariants.{Answers as Answered-so, Refused as PlacingRefused}
+use Rattle.solve_answer.specs.declared.PlacingChecked.TheVariants.{Answers as AnsweredSo, Refused as PlacingRefused}
 
 -- a count as a number, where one more than 65,535 stands for "more"
 abbrev pub count_value : Count → ℕ
@@ -60,5 +60,5 @@ yes_of (Answer b) old = cond b 1 0
 yes_of (CycleRefused why) old = old
 
 abbrev pub answers_of : PlacingChecked → ℕ → ℕ
-answers_of (Answered-so a) old = bits a
+answers_of (AnsweredSo a) old = bits a
 answers_of (PlacingRefused why) old = old

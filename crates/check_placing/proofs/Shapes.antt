@@ -178,26 +178,26 @@ abbrev pub Used : ℕ → List ℕ → NodeSet → Type 0
 Used v bytes used = (x : ℕ) → mem used x ≡ any v (carried bytes x)
 
 pub used_more : (v : ℕ) (bytes : List ℕ) (used leaf more : NodeSet) → Used v bytes used → OfByte (at bytes v) leaf → Union leaf used more → Used (v + 1) bytes more
-used_more v bytes used leaf more is_used is_Is_leaf is_more x =
-    is_more x ∙ rw (is_used x, is_Is_leaf x) (or_comm (carried bytes x v) (any v (carried bytes x)) ∙ sym (any_more v (carried bytes x)))
+used_more v bytes used leaf more is_used of_leaf is_more x =
+    is_more x ∙ rw (is_used x, of_leaf x) (or_comm (carried bytes x v) (any v (carried bytes x)) ∙ sym (any_more v (carried bytes x)))
 
 -- some leaf is in both sets
 pub used_again : (v : ℕ) (bytes : List ℕ) (used leaf both : NodeSet) → Used v bytes used → OfByte (at bytes v) leaf → Intersection used leaf both → any 128 (mem both) ≡ again bytes v
-used_again v bytes used leaf both is_used is_Is_leaf is_both =
+used_again v bytes used leaf both is_used of_leaf is_both =
     let byte : ℕ = at bytes v in
     test_ext (any 128 (mem both)) (again bytes v)
     (λ e.
     let x = any_found 128 (mem both) e in
     let k : ℕ = x.0 in
     let b = and_both (mem used k) (mem leaf k) (sym (is_both k) ∙ x.2) in
-    let i : k ≡ byte = eqb-true k byte (and_both (eqb k byte) (ltb byte 128) (sym (is_Is_leaf k) ∙ b.1)).0 in
+    let i : k ≡ byte = eqb-true k byte (and_both (eqb k byte) (ltb byte 128) (sym (of_leaf k) ∙ b.1)).0 in
     rw i at (sym (is_used k) ∙ b.0))
     (λ e.
     let x = any_found v (carried bytes byte) e in
     let b = and_both (eqb byte (at bytes x.0)) (ltb (at bytes x.0) 128) x.2 in
     let i : byte ≡ at bytes x.0 = eqb-true byte (at bytes x.0) b.0 in
     let small : byte < 128 = omega (arith, ltb-true (at bytes x.0) 128 b.1) in
-    let there : mem leaf byte ≡ true = is_Is_leaf byte ∙ and_intro (eqb byte byte) (ltb byte 128) (eq-eqb byte byte refl) (lt-ltb byte 128 small) in
+    let there : mem leaf byte ≡ true = of_leaf byte ∙ and_intro (eqb byte byte) (ltb byte 128) (eq-eqb byte byte refl) (lt-ltb byte 128 small) in
     any_at 128 (mem both) byte small (is_both byte ∙ and_intro (mem used byte) (mem leaf byte) (is_used byte ∙ e) there))
 
 pub single_every : (n : ℕ) (bytes : List ℕ) → ((v : ℕ) → v < n → again bytes v ≡ false) → single_in n bytes ≡ true

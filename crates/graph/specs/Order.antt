@@ -37,7 +37,7 @@ adding g l r = record { nodes = g.nodes; tree = g.tree; dominance = (l, r) ∷ g
 
 -- "All readings with a above b's root come before all with b above a's root. Add that edge and go on within each half
 -- (Rule 3)." Before g p q: the order puts p before q. The edge is added to g as it is; adding it to what Rule 2 leaves of g
--- gives the same order (crates/theory_list, Reduced.before-reduced).
+-- gives the same order (crates/theory_list, Reduced.before_reduced).
 pub data Before : Graph → List ℕ → List ℕ → Type 0 where
   halves : {g : Graph} {p q : List ℕ} (v a b : ℕ) → Choice g v a b → Below g p a (own g b) → Below g q b (own g a) → Before g p q
   within_first : {g : Graph} {p q : List ℕ} (v a b : ℕ) → Choice g v a b → Below g p a (own g b) → Below g q a (own g b) → Before (adding g a (own g b)) p q → Before g p q

@@ -15,7 +15,7 @@ use Rattle.graph.specs.Cycle.{hypernormal_cycle}
 use Rattle.graph.specs.Rule1.{Rule1}
 use Rattle.format.specs.Drawing.{drawing}
 use Rattle.graph.specs.declared.Count.{Count}
-use Rattle.format.specs.declared.Refusal.TheVariants.{NoReading as No-reading, SmallBuffer, NoSuchReading}
+use Rattle.format.specs.declared.Refusal.TheVariants.{NoReading as NoReadingRefusal, SmallBuffer, NoSuchReading}
 use Rattle.theory_forest.specs.Shape.{Shaped}
 use Rattle.theory_forest.proofs.Shape.{well_formed_shaped}
 use Rattle.theory_forest.proofs.Forests.{placing_length}
@@ -46,7 +46,7 @@ use Rattle.solve_answer.specs.declared.Sought.TheVariants.{Found, Refused as Sou
 use Rattle.solve_answer.specs.declared.Drawn.TheVariants.{Length}
 use Rattle.solve_answer.proofs.Texts.{sought_solved, text_drawn, drawing_from_text}
 use Rattle.solve_answer.specs.contracts.Placed.{the_type}
-use Rattle.solve_answer.specs.declared.PlacingChecked.TheVariants.{Answers as Answered-so, Refused as PlacingRefused}
+use Rattle.solve_answer.specs.declared.PlacingChecked.TheVariants.{Answers as AnsweredSo, Refused as PlacingRefused}
 
 -- a graph with a solved form has a reading
 pub some_listed : (g : Graph) → Shaped g → Solvable g → 0 < length (listed g)
@@ -110,7 +110,7 @@ module _ {n : ℕ} {parents heads_low heads_high : List ℕ} (s : SheetTables n 
 
   -- where no solved form is
 
-  pub no_count : Unsolvable s.graph → Counts s.graph (CountRefused No-reading)
+  pub no_count : Unsolvable s.graph → Counts s.graph (CountRefused NoReadingRefusal)
   no_count u = calls.Counts.none u
 
   pub small_call : (room place : ℕ) (old : List ℕ) → length old < 2 * n → StretchCall s.graph room place old (Refused SmallBuffer) place old
@@ -123,7 +123,7 @@ module _ {n : ℕ} {parents heads_low heads_high : List ℕ} (s : SheetTables n 
   no_reading room place old new c h u within long spelt rest =
       calls.StretchCall.none {c = c} (omega (arith, nodes, h)) u (record { fits = omega (arith, h, within); long = long; cycle = spelt (unsolved_tables u); rest = rest })
 
-  pub none_to_seek : (k : ℕ) (placing : List ℕ) → Unsolvable s.graph → Seeks s.graph k placing (SoughtRefused No-reading)
+  pub none_to_seek : (k : ℕ) (placing : List ℕ) → Unsolvable s.graph → Seeks s.graph k placing (SoughtRefused NoReadingRefusal)
   none_to_seek k placing u = calls.Seeks.none u
 
   -- where there is one
@@ -276,7 +276,7 @@ module _ {n : ℕ} {parents heads_low heads_high : List ℕ} (s : SheetTables n 
   small_placing bytes h = calls.PlacingCall.small (omega (arith, nodes, h))
 
   pub placing_answered : (bytes : List ℕ) (a : Answers) → n ≤ length bytes
-      → ((g : Graph) (edges : ℕ) → Tables g n parents heads_low heads_high edges → Answered g (take n bytes) a) → PlacingCall s.graph bytes (Answered-so a)
+      → ((g : Graph) (edges : ℕ) → Tables g n parents heads_low heads_high edges → Answered g (take n bytes) a) → PlacingCall s.graph bytes (AnsweredSo a)
   placing_answered bytes a h f =
       calls.PlacingCall.answered a (omega (arith, nodes, h))
       (subst (λ (k : ℕ). Answered s.graph (take k bytes) a) nodes (f s.graph s.edges s.tables))

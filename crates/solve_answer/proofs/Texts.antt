@@ -9,7 +9,7 @@ use Rattle.graph.specs.Graph.{Graph}
 use Rattle.graph.specs.Placing.{SolvedForm}
 use Rattle.format.specs.Drawing.{drawing}
 use Rattle.format.specs.declared.Refusal.{Refusal}
-use Rattle.format.specs.declared.Refusal.TheVariants.{NoReading as No-reading, NoSuchReading}
+use Rattle.format.specs.declared.Refusal.TheVariants.{NoReading as NoReadingRefusal, NoSuchReading}
 use Rattle.solve_answer.specs.Calls.{Seeks, TextCall, DrawingCall}
 use Rattle.solve_answer.specs.Calls as calls
 use Rattle.solve_answer.specs.declared.Sought.{Sought}
@@ -25,7 +25,7 @@ module _ {g : Graph} {k : ℕ} {placing : List ℕ} where
 
   module _ {least : ℕ} {text : List ℕ → List ℕ} {old : List ℕ} (enough : least ≤ length old) where
     pub text_refused : {q : Sought} {why : Refusal} → Seeks g k placing q → q ≡ SoughtRefused why → TextCall least text g k old (DrawnRefused why) old
-    text_refused {why = why} (calls.Seeks.none u) e = let same : No-reading ≡ why = cc in rw (sym same) (calls.TextCall.none enough u)
+    text_refused {why = why} (calls.Seeks.none u) e = let same : NoReadingRefusal ≡ why = cc in rw (sym same) (calls.TextCall.none enough u)
     text_refused {why = why} (calls.Seeks.beyond ps l some b) e = let same : NoSuchReading ≡ why = cc in rw (sym same) (calls.TextCall.beyond ps enough l some b)
     text_refused {why = why} (calls.Seeks.found ps l one most is) e = absurd (let z : ◌≡◌ {A = ℕ} 0 1 = cc in omega arith)
 

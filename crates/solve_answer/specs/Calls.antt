@@ -11,7 +11,7 @@ use Rattle.format.specs.Sheet.{Content}
 use Rattle.format.specs.Drawing.{drawing}
 use Rattle.format.specs.Term.{term, text}
 use Rattle.format.specs.Refusal.{number}
-use Rattle.format.specs.declared.Refusal.TheVariants.{NoReading as No-reading, SmallBuffer, NoSuchReading}
+use Rattle.format.specs.declared.Refusal.TheVariants.{NoReading as NoReadingRefusal, SmallBuffer, NoSuchReading}
 use Rattle.solve_stretch.specs.Stretch.{placings}
 use Rattle.check_placing.specs.Answered.{Answered}
 use Rattle.check_placing.specs.declared.Answers.{Answers}
@@ -24,7 +24,7 @@ use Rattle.solve_answer.specs.declared.Sought.TheVariants.{Found, Refused as Sou
 use Rattle.solve_answer.specs.declared.Drawn.{Drawn}
 use Rattle.solve_answer.specs.declared.Drawn.TheVariants.{Length, Refused as DrawnRefused}
 use Rattle.solve_answer.specs.declared.PlacingChecked.{PlacingChecked}
-use Rattle.solve_answer.specs.declared.PlacingChecked.TheVariants.{Answers as Answered-so, Refused as PlacingRefused}
+use Rattle.solve_answer.specs.declared.PlacingChecked.TheVariants.{Answers as AnsweredSo, Refused as PlacingRefused}
 
 -- how many readings can be handed out: "beyond the count or beyond 65,535"
 abbrev pub reach : List (List ℕ) → ℕ
@@ -37,7 +37,7 @@ count_number (CountRefused why) = number why
 
 abbrev pub placed_number : Placed → ℕ
 placed_number Done = 0
-placed_number (NoReading c) = number No-reading
+placed_number (NoReading c) = number NoReadingRefusal
 placed_number (Refused why) = number why
 
 abbrev pub drawn_number : Drawn → ℕ
@@ -45,12 +45,12 @@ drawn_number (Length k) = 0
 drawn_number (DrawnRefused why) = number why
 
 abbrev pub placing_number : PlacingChecked → ℕ
-placing_number (Answered-so a) = 0
+placing_number (AnsweredSo a) = 0
 placing_number (PlacingRefused why) = number why
 
 -- the count of a well-formed sheet
 pub data Counts (g : Graph) : Counted → Type 0 where
-  none : Unsolvable g → Counts g (CountRefused No-reading)
+  none : Unsolvable g → Counts g (CountRefused NoReadingRefusal)
   counted : (ps : List (List ℕ)) → Listing g ps → 0 < length ps → Counts g (Readings (count_answer (length ps)))
 
 -- "The cycle fills the first 2c bytes"; "Bytes past a result stay unwritten."
@@ -86,21 +86,21 @@ pub data ConfigurationCall (g : Graph) (old : List ℕ) : Placed → List ℕ �
 -- the drawing of the reading with the number k
 pub data DrawingCall (g : Graph) (k : ℕ) (old : List ℕ) : Drawn → List ℕ → Type 0 where
   small : length old < 1024 → DrawingCall g k old (DrawnRefused SmallBuffer) old
-  none : 1024 ≤ length old → Unsolvable g → DrawingCall g k old (DrawnRefused No-reading) old
+  none : 1024 ≤ length old → Unsolvable g → DrawingCall g k old (DrawnRefused NoReadingRefusal) old
   beyond : (ps : List (List ℕ)) → 1024 ≤ length old → Listing g ps → 0 < length ps → (k ≡ 0) ⊎ (reach ps < k) → DrawingCall g k old (DrawnRefused NoSuchReading) old
   drawn : (ps : List (List ℕ)) → 1024 ≤ length old → Listing g ps → 0 < k → k ≤ reach ps
       → DrawingCall g k old (Length (length (drawing g (entry ps (k - 1))))) (drawing g (entry ps (k - 1)) ++ drop (length (drawing g (entry ps (k - 1)))) old)
 
 -- the reading with the number k, in the first n bytes of a table of its own: 9, 11
 pub data Seeks (g : Graph) (k : ℕ) (placing : List ℕ) : Sought → Type 0 where
-  none : Unsolvable g → Seeks g k placing (SoughtRefused No-reading)
+  none : Unsolvable g → Seeks g k placing (SoughtRefused NoReadingRefusal)
   beyond : (ps : List (List ℕ)) → Listing g ps → 0 < length ps → (k ≡ 0) ⊎ (reach ps < k) → Seeks g k placing (SoughtRefused NoSuchReading)
   found : (ps : List (List ℕ)) → Listing g ps → 0 < k → k ≤ reach ps → take g.nodes placing ≡ entry ps (k - 1) → Seeks g k placing Found
 
 -- a text of the reading with the number k, for which `least` bytes are to be lent
 pub data TextCall (least : ℕ) (text : List ℕ → List ℕ) (g : Graph) (k : ℕ) (old : List ℕ) : Drawn → List ℕ → Type 0 where
   small : length old < least → TextCall least text g k old (DrawnRefused SmallBuffer) old
-  none : least ≤ length old → Unsolvable g → TextCall least text g k old (DrawnRefused No-reading) old
+  none : least ≤ length old → Unsolvable g → TextCall least text g k old (DrawnRefused NoReadingRefusal) old
   beyond : (ps : List (List ℕ)) → least ≤ length old → Listing g ps → 0 < length ps → (k ≡ 0) ⊎ (reach ps < k) → TextCall least text g k old (DrawnRefused NoSuchReading) old
   drawn : (ps : List (List ℕ)) → least ≤ length old → Listing g ps → 0 < k → k ≤ reach ps
       → TextCall least text g k old (Length (length (text (entry ps (k - 1))))) (text (entry ps (k - 1)) ++ drop (length (text (entry ps (k - 1)))) old)
@@ -112,4 +112,4 @@ TermCall s = TextCall 2048 (λ p. text (term s p)) s.graph
 -- "The check of a placing reads the first n bytes and gives three yes-or-no answers"
 pub data PlacingCall (g : Graph) (placing : List ℕ) : PlacingChecked → Type 0 where
   small : length placing < g.nodes → PlacingCall g placing (PlacingRefused SmallBuffer)
-  answered : (a : Answers) → g.nodes ≤ length placing → Answered g (take g.nodes placing) a → PlacingCall g placing (Answered-so a)
+  answered : (a : Answers) → g.nodes ≤ length placing → Answered g (take g.nodes placing) a → PlacingCall g placing (AnsweredSo a)

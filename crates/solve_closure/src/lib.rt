@@ -7,7 +7,7 @@ ghost use Rattle.std.specs.Prelude.{◌≡◌, true, false, ◌&&◌, List, ℕ,
 ghost use Rattle.base_finite.specs.Below.{any};
 ghost use Rattle.base_nodeset.specs.Set.{bit, mem};
 ghost use Rattle.graph.specs.Graph.{Graph, Descent, none};
-ghost use Rattle.graph.specs.Placing.{placing as placingOf, Below};
+ghost use Rattle.graph.specs.Placing.{placing as placing_of, Below};
 ghost use Rattle.base_tables.specs.Trees.{Parents};
 ghost use Rattle.base_tables.specs.Rows.{Long as Paired};
 ghost use Rattle.base_tables.specs.Sets.{Long, in_row, Rows};
@@ -147,7 +147,7 @@ pub fn graph_rows(parent: &[u8], heads_low: &[u64], heads_high: &[u64], n: usize
 pub fn placing_rows(parent: &[u8], placing: &[u8], n: usize, rows: &mut [u64])
     requires { Parents n parent.now × Links n placing.now × Long rows.old }
     ensures { (g : Graph) (lows highs : List ℕ) (edges : ℕ) → Tables g n parent.now lows highs edges →
-        placingOf g (take n placing.now) ≡ true → Rows (Below g (take n placing.now)) rows.new }
+        placing_of g (take n placing.now) ≡ true → Rows (Below g (take n placing.now)) rows.new }
 {
     clear(rows);
     add_links(parent, n, rows);

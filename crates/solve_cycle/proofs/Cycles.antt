@@ -167,7 +167,7 @@ module _
     (q : Queue n (joined_in parents low high) queue came place found)
     (at l r : ℕ)
     (here : at < found)
-    (is_Is_leaf : get_or queue at 0 ≡ l)
+    (of_leaf : get_or queue at 0 ≡ l)
     (is_root : get_or queue 0 0 ≡ r)
     (old new : List ℕ)
     (c : ℕ)
@@ -194,7 +194,7 @@ module _
         some = omega arith;
         few = in_room;
         long = simp length-set t.long;
-        first = node_kept 0 (omega arith) ∙ t.first ∙ is_Is_leaf;
+        first = node_kept 0 (omega arith) ∙ t.first ∙ of_leaf;
         last = λ i e.
             let z : i ≡ c = omega arith in
             rw z (node_kept c (omega arith) ∙ t.last ∙ is_root, get_or-set_same new (2 * c + 1) 3 0 (omega (arith, t.long)));

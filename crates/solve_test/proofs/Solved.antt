@@ -51,7 +51,7 @@ module _
     (closed : Closed below)
     (is_below : (u v : ℕ) → End g u → (below u v ≡ true) ↔ Descent g u v)
     (is_near : (f h : ℕ) → (near f h ≡ true) ↔ Near below (mem roots) f h)
-    (is_Is_leaf : (r x : ℕ) → leaves r x ≡ leaf_of g r x) where
+    (of_leaf : (r x : ℕ) → leaves r x ≡ leaf_of g r x) where
   related : (f h : ℕ) → near f h ≡ true → Related g f h
   related f h e =
       let n = (is_near f h).0 e in
@@ -93,7 +93,7 @@ module _
           member = x.member;
           none_above = λ y m d. x.none_above y m ((is_below y F (inl (sub y m))).1 d);
           one_leaf = λ l m f hl hm p q.
-              x.one_leaf l m f (is_Is_leaf F l ∙ hl) (is_Is_leaf F m ∙ hm) (joined_spread F l (a_leaf F l hl) p) (joined_spread F m (a_leaf F m hm) q);
+              x.one_leaf l m f (of_leaf F l ∙ hl) (of_leaf F m ∙ hm) (joined_spread F l (a_leaf F l hl) p) (joined_spread F m (a_leaf F m hm) q);
         }
 
     pub free_is : (F : ℕ) → Free g rem F → FreeIn below near leaves rem F
@@ -102,8 +102,8 @@ module _
           member = x.member;
           none_above = λ y m d. x.none_above y m ((is_below y F (inl (sub y m))).0 d);
           one_leaf = λ l m f hl hm p q.
-              let l_of : leaf_of g F l ≡ true = sym (is_Is_leaf F l) ∙ hl in
-              let m_of : leaf_of g F m ≡ true = sym (is_Is_leaf F m) ∙ hm in
+              let l_of : leaf_of g F l ≡ true = sym (of_leaf F l) ∙ hl in
+              let m_of : leaf_of g F m ≡ true = sym (of_leaf F m) ∙ hm in
               x.one_leaf l m f l_of m_of (spread_joined rem F l (a_leaf F l l_of) p) (spread_joined rem F m (a_leaf F m m_of) q);
         }
 

@@ -27,7 +27,7 @@ use Rattle.sheet_fragments.specs.Records.{Recorded}
 use Rattle.sheet_fragments.specs.declared.Table.{Table}
 use Rattle.solve_answer.specs.Calls.{placing_number, PlacingCall}
 use Rattle.solve_answer.specs.declared.PlacingChecked.{PlacingChecked}
-use Rattle.solve_answer.specs.declared.PlacingChecked.TheVariants.{Answers as Answered-so}
+use Rattle.solve_answer.specs.declared.PlacingChecked.TheVariants.{Answers as AnsweredSo}
 use Rattle.counter.specs.Checks.{measured_number, cycle_number, tidied_number, table_number, NodesOf, CycleOf, PlacingOf}
 use Rattle.counter.specs.Numbers.{First, NoRefusal, Numbered, PlacingNumbered}
 use Rattle.counter.specs.declared.Measured.{Measured}
@@ -73,7 +73,7 @@ placing_determined : {g : Graph} {bytes : List ℕ} {r r' : PlacingChecked} → 
 placing_determined (PlacingCall.small f) (PlacingCall.small f') = refl
 placing_determined (PlacingCall.small f) (PlacingCall.answered a f' x) = absurd (omega arith)
 placing_determined (PlacingCall.answered a f x) (PlacingCall.small f') = absurd (omega arith)
-placing_determined (PlacingCall.answered a f x) (PlacingCall.answered b f' y) = ap Answered-so (same_answers a b x y)
+placing_determined (PlacingCall.answered a f x) (PlacingCall.answered b f' y) = ap AnsweredSo (same_answers a b x y)
 
 pub check_placing_determined : (o : Outcome) (bytes : List ℕ) (r r' : PlacingChecked) → PlacingOf o bytes r → PlacingOf o bytes r' → r ≡ r'
 check_placing_determined (refused why) bytes r r' e e' = e ∙ sym e'
@@ -84,10 +84,10 @@ check_placing_determined (accepted s) bytes r r' x y = placing_determined x y
 abbrev pub three_noes : Answers
 three_noes = three false false false
 
-pub no_placing : {g : Graph} {bytes : List ℕ} {r : PlacingChecked} → PlacingCall g bytes r → g.nodes ≤ length bytes → placing g (take g.nodes bytes) ≡ false → r ≡ Answered-so three_noes
+pub no_placing : {g : Graph} {bytes : List ℕ} {r : PlacingChecked} → PlacingCall g bytes r → g.nodes ≤ length bytes → placing g (take g.nodes bytes) ≡ false → r ≡ AnsweredSo three_noes
 no_placing (PlacingCall.small f) h e = absurd (omega arith)
 no_placing (PlacingCall.answered a f x) h e =
-    ap Answered-so
+    ap AnsweredSo
     (all_three a three_noes
     (not_holding a.solved (λ t. true≢false (sym (x.solved.0 t).is_placing ∙ e)))
     (not_holding a.configuration (λ t. true≢false (sym (x.configuration.0 t).solved.is_placing ∙ e)))
