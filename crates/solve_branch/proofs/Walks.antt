@@ -296,7 +296,7 @@ outset_solvable : {g : Graph} (trail : List ℕ) (depth : ℕ) → Solvable g �
 outset_solvable {g} trail depth s none = subst Solvable (sym (ap (reached g trail) none ∙ reached_none g trail)) s
 
 pub dives_outset : {g : Graph} {trail states : List ℕ} {at : Level} → Solvable g → at.depth ≡ 0 → at.open ≡ 0 → at.kept ≡ 0 → Matches g trail states at → Dives g trail states at 0
-dives_outset {g} {trail} {at = at} s none Open-none kept m =
+dives_outset {g} {trail} {at = at} s none open_none kept m =
     record {
       enters = record {
         entering = subst (λ (l : List Decision). Entering g l 0) (sym (ap (decisions trail) none ∙ decisions_none trail)) (entering_outset g);
