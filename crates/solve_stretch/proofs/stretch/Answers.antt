@@ -9,11 +9,11 @@ pub returns-then-passed-ge-LAST : goal.returns-then-passed-ge-LAST
 returns-then-passed-ge-LAST c = λ s. past_limit s.walked.graph _ _ (omega (arith, c.if-passed-ge-LAST.true))
 
 pub reach_next-from-requires : goal.reach_next-from-requires
-reach_next-from-requires c = (c.requires.0, omega (arith, stack_small c.args.trees.n c.if-trees-le-SMALL.true), omega (arith, small_room c.args.trees.n c.if-trees-le-SMALL.true), omega (arith, c.if-passed-ge-LAST.false))
+reach_next-from-requires c = (c.requires.0, omega (arith, stack_small c.args.trees.n (omega arith)), omega (arith, small_room c.args.trees.n (omega arith)), omega (arith, c.if-passed-ge-LAST.false))
 
 pub fill_next-requires : goal.fill_next-requires
 fill_next-requires c = let s = c.requires.0 in
-    record { standing = (λ e. record { walked = s.walked; stands = (c.reach_next-from.ensures.next s).on e }, omega (arith, small_room c.args.trees.n c.if-trees-le-SMALL.true, c.reach_next-from.auto)); last_lt_limit = (omega (arith, c.reach_next-from.ensures.last_value, c.if-passed-ge-LAST.false), c.requires.1) }
+    record { standing = (λ e. record { walked = s.walked; stands = (c.reach_next-from.ensures.next s).on e }, omega (arith, small_room c.args.trees.n (omega arith), c.reach_next-from.auto)); last_lt_limit = (omega (arith, c.reach_next-from.ensures.last_value, c.if-passed-ge-LAST.false), c.requires.1) }
 
 pub returns-then-trees-le-SMALL : goal.returns-then-trees-le-SMALL
 returns-then-trees-le-SMALL c = λ s. from_passed c.reach_next-from.ensures.last_value (c.fill_next.ensures s.walked.graph s.walked.fits (c.reach_next-from.ensures.next s))
