@@ -19,7 +19,7 @@ pub returns-then-number-eq0 : goal.returns-then-number-eq0
 returns-then-number-eq0 c = record { seeks = λ s. no_such s ((c.begin-begun.ensures.started s).solved (not-false _ c.if-not-begun.false)) _ _ (inl c.if-number-eq0.true); placing_len = c.requires.1 }
 
 pub returns-then-number-gt-LAST : goal.returns-then-number-gt-LAST
-returns-then-number-gt-LAST c = record { seeks = λ s. no_such s ((c.begin-begun.ensures.started s).solved (not-false _ c.if-not-begun.false)) _ _ (inr (omega (arith, c.if-number-gt-LAST.true))); placing_len = c.requires.1 }
+returns-then-number-gt-LAST c = record { seeks = λ s. no_such s ((c.begin-begun.ensures.started s).solved (not-false _ c.if-not-begun.false)) _ _ (inr (omega arith)); placing_len = c.requires.1 }
 
 pub find-requires : goal.find-requires
 find-requires c =
@@ -27,7 +27,7 @@ find-requires c =
     (((c.begin-begun.ensures.started s).solved (not-false _ c.if-not-begun.false)).sheet, omega (arith, c.if-number-eq0.false), omega (arith, (parents_table s).few, c.begin-begun.ensures.n_value, c.requires.1))
 
 pub returns-then-find : goal.returns-then-find
-returns-then-find c = record { seeks = λ s. found_so s ((c.begin-begun.ensures.started s).solved (not-false _ c.if-not-begun.false)) c.find.ensures (omega (arith, c.if-number-eq0.false)) (omega (arith, c.if-number-gt-LAST.false)) c.if-find.true; placing_len = search rules }
+returns-then-find c = record { seeks = λ s. found_so s ((c.begin-begun.ensures.started s).solved (not-false _ c.if-not-begun.false)) c.find.ensures (omega (arith, c.if-number-eq0.false)) (omega arith) c.if-find.true; placing_len = search rules }
 
 pub returns : goal.returns
 returns c = record { seeks = λ s. not_found s ((c.begin-begun.ensures.started s).solved (not-false _ c.if-not-begun.false)) c.find.ensures c.if-find.false; placing_len = search rules }
