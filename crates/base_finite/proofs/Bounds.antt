@@ -53,11 +53,6 @@ pub least_first : (n : ℕ) (p : ℕ → Bool) → least (suc n) p ≡ cond (p 0
 unfolding any least
 least_first n p = ap (λ (m : ℕ). least m p) (sym (one-add n)) ∙ least_join 1 n p ∙ simp one-add (by_bool (p 0) (λ t. rw t) (λ f. rw f))
 
-pub count_longer : (m n : ℕ) (p : ℕ → Bool) → m ≤ n → count m p ≤ count n p
-count_longer m n p h =
-    let e : count n p ≡ count m p + count (n - m) (λ k. p (m + k)) = ap (λ (k : ℕ). count k p) (sym (add-sub_of_le h)) ∙ count_join m (n - m) p in
-    omega arith
-
 -- a bound that no number with p reaches may be cut to n
 
 pub count_cut : (m n : ℕ) (p : ℕ → Bool) → n ≤ m → ((k : ℕ) → k < m → p k ≡ true → k < n) → count m p ≡ count n p

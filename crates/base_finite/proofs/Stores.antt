@@ -8,8 +8,8 @@ use native.Mathlib.Numerals.{add-one}
 use native.Mathlib.Omega.{arith}
 use lib.Dec.{eqb, ltb}
 use lib.ListN.{length, get_or, set, replicate, length-set, length-append, length-replicate, get_or-replicate, get_or-eq_default}
-use lib.Seq.{sets, length-sets, get_or-set_same, get_or-set_other, ext_get_or}
-use borrow.Author.Tests.{eqb-true, eqb-false, lt-ltb, le-ltb, ltb-true, ltb-false}
+use lib.Seq.{sets, length-sets, get_or-set_same, get_or-set_other}
+use borrow.Author.Tests.{eqb-true, eqb-false, ltb-true, ltb-false}
 use Rattle.base_finite.proofs.Laws.{by_bool}
 use Rattle.base_finite.proofs.Runs.{sets_append}
 use Rattle.base_finite.specs.Stores.{Written}
@@ -87,27 +87,6 @@ entry_more f l v x h e below k lt =
 -- the first v entries are f's, and the others as before
 abbrev pub Filled : (ℕ → ℕ) → ℕ → List ℕ → List ℕ → Type 0
 Filled f v old new = (k : ℕ) → get_or new k 0 ≡ cond (ltb k v) (f k) (get_or old k 0)
-
-pub filled_none : (f : ℕ → ℕ) (old : List ℕ) → Filled f 0 old old
-filled_none f old k = rw (le-ltb k 0 (omega arith))
-
-pub filled_more : (f : ℕ → ℕ) (v : ℕ) (old new : List ℕ) (x : ℕ) → v < length new → x ≡ f v → Filled f v old new → Filled f (v + 1) old (set new v x)
-filled_more f v old new x h e so k =
-    by_bool (eqb k v)
-    (λ (t : eqb k v ≡ true).
-    let i : k ≡ v = eqb-true k v t in
-    rw (i, lt-ltb v (v + 1) (omega arith), get_or-set_same new v x 0 h) e)
-    (λ (t : eqb k v ≡ false).
-    let other : k ≡ v → ⊥ = eqb-false k v t in
-    get_or-set_other new v k x 0 other
-    ∙ so k
-    ∙ by_bool (ltb k v)
-    (λ (l : ltb k v ≡ true). rw (l, lt-ltb k (v + 1) (omega (arith, ltb-true k v l))))
-    (λ (l : ltb k v ≡ false). rw (l, le-ltb k (v + 1) (omega (arith, ltb-false k v l)))))
-
--- a table whose entries are those of another is that one
-pub copied_all : (from l : List ℕ) (k : ℕ) → length l ≡ length from → length l ≤ k → ((i : ℕ) → i < k → get_or l i 0 ≡ get_or from i 0) → l ≡ from
-copied_all from l k e long so = ext_get_or 0 l from e (λ i h. so i (omega arith))
 
 -- a table of zeros, and what is read behind its end
 pub zeros : (m l : ℕ) → ◌≡◌ {A = ℕ} (get_or (replicate m 0) l 0) 0

@@ -1,7 +1,7 @@
--- Going through the members of a set, the lowest first: what `pop` finds, and what is in a set without a member.
+-- Going through the members of a set, the lowest first: what `pop_first` finds, and what is in a set without a member.
 -- All members are below 128, where the high word has its 64 bits.
 use Prim.Native.Nat.{ℕ, ◌+◌, ◌^◌, ◌<◌}
-use mathlib.Core.Path.{◌≡◌, sym, ap, ◌∙◌}
+use mathlib.Core.Path.{◌≡◌, refl, sym, ap, ◌∙◌}
 use mathlib.Core.Bool.{Bool, true, false, not, true≢false}
 use native.Mathlib.Omega.{arith}
 use lib.Count.{count_trailing_zeros}
@@ -11,7 +11,7 @@ use Rattle.base_finite.specs.Below.{any, count, least}
 use Rattle.base_finite.proofs.Laws.{and_both, by_bool, not_not, any_false, count_one_more, least_below, least_holds}
 use Rattle.base_nodeset.specs.Set.{mem, OfByte, Removed, Lowest, Pops, Difference}
 use Rattle.base_nodeset.specs.declared.NodeSet.{NodeSet}
-use Rattle.base_nodeset.specs.declared.Popped.TheVariants.{None, Member}
+use Rattle.std.specs.Prelude.{None, Some}
 use Rattle.base_nodeset.proofs.Words.{trailing_below}
 use Rattle.base_nodeset.proofs.Laws.{member_zero, member_beyond, least_member}
 
@@ -68,7 +68,7 @@ one_less s k t h m r = count_one_more 128 (mem t) (mem s) k h (removed_gone s k 
 
 -- the least number below 128 that is in s
 
-pub pops_lowest : (s : NodeSet) (k : ℕ) (t : NodeSet) → k ≡ least 128 (mem s) → k < 128 → Removed s k t → Pops s (Member k t)
+pub pops_lowest : (s : NodeSet) (k : ℕ) (t : NodeSet) → k ≡ least 128 (mem s) → k < 128 → Removed s k t → Pops s t (Some k)
 pops_lowest s k t e h r =
     let m : mem s k ≡ true = rw e (least_holds 128 (mem s) (omega arith)) in
     let found : Lowest s k t = record {
@@ -80,29 +80,30 @@ pops_lowest s k t e h r =
     } in
     record {
       empty = λ q. let z : ◌≡◌ {A = ℕ} 0 1 = cc in absurd (omega arith);
-      lowest = λ x u q.
+      unchanged = λ q. let z : ◌≡◌ {A = ℕ} 0 1 = cc in absurd (omega arith);
+      lowest = λ x q.
           let e : x ≡ k = cc in
-          let f : u ≡ t = cc in
-          rw (e, f) found;
+          rw e found;
     }
 
 -- the lowest member by words
 
-pub pops_low : (s t : NodeSet) → s.low < 2 ^ 64 → (s.low ≡ 0 → ⊥) → Removed s (count_trailing_zeros 64 s.low) t → Pops s (Member (count_trailing_zeros 64 s.low) t)
+pub pops_low : (s t : NodeSet) → s.low < 2 ^ 64 → (s.low ≡ 0 → ⊥) → Removed s (count_trailing_zeros 64 s.low) t → Pops s t (Some (count_trailing_zeros 64 s.low))
 pops_low s t h some r =
     pops_lowest s (count_trailing_zeros 64 s.low) t (rw (least_member s.low s.high h, ne_eqb s.low 0 some))
     (omega (arith, trailing_below 64 s.low h some)) r
 
 pub pops_high : (s t : NodeSet) → s.high < 2 ^ 64 → s.low ≡ 0 → (s.high ≡ 0 → ⊥) → Removed s (64 + count_trailing_zeros 64 s.high) t
-    → Pops s (Member (64 + count_trailing_zeros 64 s.high) t)
+    → Pops s t (Some (64 + count_trailing_zeros 64 s.high))
 pops_high s t h none some r =
     pops_lowest s (64 + count_trailing_zeros 64 s.high) t (rw (least_member s.low s.high (omega arith), eq-eqb s.low 0 none))
     (omega (arith, trailing_below 64 s.high h some)) r
 
-pub pops_zero : (s : NodeSet) → s.low ≡ 0 → s.high ≡ 0 → Pops s None
+pub pops_zero : (s : NodeSet) → s.low ≡ 0 → s.high ≡ 0 → Pops s s None
 pops_zero s e f = record {
   empty = λ _ j. rw (e, f) (member_zero j);
-  lowest = λ x t q. let z : ◌≡◌ {A = ℕ} 0 1 = cc in absurd (omega arith);
+  unchanged = λ _. refl;
+  lowest = λ x q. let z : ◌≡◌ {A = ℕ} 0 1 = cc in absurd (omega arith);
 }
 
 -- the set of a byte's node

@@ -1,10 +1,8 @@
 -- A set of the numbers below 128: the numbers below 64 are the bits of one word, the others the bits of a second.
 -- A definition here says what is in such a set, or what an operation does to each number's membership.
-use Rattle.std.specs.Prelude.{ℕ, ◌+◌, ◌-◌, ◌/◌, ◌%◌, ◌^◌, ◌<◌, ◌≡◌, Bool, true, false, cond, not, ◌||◌, ◌&&◌, eqb, ltb}
+use Rattle.std.specs.Prelude.{ℕ, ◌+◌, ◌-◌, ◌/◌, ◌%◌, ◌^◌, ◌<◌, ◌≡◌, Bool, true, false, cond, not, ◌||◌, ◌&&◌, eqb, ltb, Option, None, Some}
 use Rattle.base_finite.specs.Below.{count}
 use Rattle.base_nodeset.specs.declared.NodeSet.{NodeSet}
-use Rattle.base_nodeset.specs.declared.Popped.{Popped}
-use Rattle.base_nodeset.specs.declared.Popped.TheVariants.{None, Member}
 
 -- bit k of the word w is set
 unfoldable pub bit : ℕ → ℕ → Bool
@@ -52,7 +50,8 @@ pub record Lowest (s : NodeSet) (x : ℕ) (rest : NodeSet) : Type 0 where
   pub others : Removed s x rest
   pub one_less : count 128 (mem s) ≡ count 128 (mem rest) + 1
 
--- what the answer r to taking a member out of s says
-pub record Pops (s : NodeSet) (r : Popped) : Type 0 where
+-- Taking the lowest member out of s leaves s' and answers r.
+pub record Pops (s s' : NodeSet) (r : Option ℕ) : Type 0 where
   pub empty : r ≡ None → Empty s
-  pub lowest : (x : ℕ) (rest : NodeSet) → r ≡ Member x rest → Lowest s x rest
+  pub unchanged : r ≡ None → s' ≡ s
+  pub lowest : (x : ℕ) → r ≡ Some x → Lowest s x s'

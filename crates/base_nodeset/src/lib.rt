@@ -6,17 +6,10 @@ ghost use Rattle.base_finite.specs.Below.{any, count, least, select};
 ghost use Rattle.base_finite.specs.Stores.{Written};
 ghost use Rattle.base_nodeset.specs.Set.{mem, Empty, Only, OfByte, Inserted, Removed, Union, Intersection, Difference, Pops};
 
-#[derive(Clone, Copy)]
+#[derive(Clone, Copy, PartialEq, Eq)]
 pub struct NodeSet {
     pub low: u64,
     pub high: u64,
-}
-
-// The lowest member, and the set without it.
-#[derive(Clone, Copy)]
-pub enum Popped {
-    None,
-    Member(usize, NodeSet),
 }
 
 impl NodeSet {
@@ -147,18 +140,20 @@ impl NodeSet {
         }
     }
 
-    // Only the word that has the member changes.
-    pub fn pop(self) -> Popped
-        ensures { Pops self result }
+    // Takes the lowest member out. Only the word that has it changes.
+    pub fn pop_first(&mut self) -> Option<usize>
+        ensures { Pops self.old self.new result }
     {
         if self.low != 0 {
             let k = u64::trailing_zeros(self.low) as usize;
-            Popped::Member(k, self.without_low(k))
+            *self = self.without_low(k);
+            Some(k)
         } else if self.high != 0 {
             let k = u64::trailing_zeros(self.high) as usize;
-            Popped::Member(64 + k, self.without_high(k))
+            *self = self.without_high(k);
+            Some(64 + k)
         } else {
-            Popped::None
+            None
         }
     }
 
@@ -175,13 +170,10 @@ impl NodeSet {
     {
         let mut left = self;
         let mut end = at;
-        loop {
-            let Popped::Member(x, rest) = left.pop() else {
-                return end;
-            };
+        while let Some(x) = left.pop_first() {
             out[end] = x as u8;
             end += 1;
-            left = rest;
         }
+        end
     }
 }

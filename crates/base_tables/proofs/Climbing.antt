@@ -1,5 +1,5 @@
 -- One edge up, one entry more in the table of roots, and an edge between two nodes.
-use Prim.Native.Nat.{ℕ, zero, suc, ◌+◌, ◌-◌, ◌≤◌, ◌<◌}
+use Prim.Native.Nat.{ℕ, zero, suc, ◌+◌, ◌≤◌, ◌<◌}
 use mathlib.Core.Path.{◌≡◌, refl, ◌∙◌}
 use mathlib.Core.List.{List}
 use mathlib.Core.Bool.{true, false}
@@ -20,12 +20,12 @@ unfolding top_in
 top_ends zero parents v e = refl
 top_ends (suc k) parents v e = rw (eq-eqb (get_or parents v 0) none e)
 
-pub top_goes_on : (k : ℕ) (parents : List ℕ) (v : ℕ) → 0 < k → (get_or parents v 0 ≡ none → ⊥) → top_in (k - 1) parents (get_or parents v 0) ≡ top_in k parents v
+pub top_goes_on : (k j : ℕ) (parents : List ℕ) (v : ℕ) → k ≡ j + 1 → (get_or parents v 0 ≡ none → ⊥) → top_in j parents (get_or parents v 0) ≡ top_in k parents v
 unfolding top_in
-top_goes_on zero parents v h e = absurd (omega arith)
-top_goes_on (suc k) parents v h e =
-    let less : suc k - 1 ≡ k = omega arith in
-    rw (less, ne_eqb (get_or parents v 0) none e)
+top_goes_on zero j parents v h e = absurd (omega arith)
+top_goes_on (suc k) j parents v h e =
+    let same : j ≡ k = omega arith in
+    rw (same, ne_eqb (get_or parents v 0) none e)
 
 pub top_stops : (k : ℕ) (parents : List ℕ) (v : ℕ) → k ≤ 0 → top_in k parents v ≡ v
 unfolding top_in

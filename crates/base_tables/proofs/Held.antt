@@ -9,26 +9,26 @@ use lib.ListN.{get_or, set, length-set}
 use lib.Seq.{get_or-set_same, get_or-set_other}
 use borrow.Author.Tests.{eqb-true, eqb-false}
 use Rattle.base_finite.proofs.Laws.{by_bool}
+use Rattle.base_nodeset.specs.declared.NodeSet.{NodeSet}
 use Rattle.graph.specs.Graph.{Edge, entered, single, parent}
 use Rattle.theory_edges.proofs.Edges.{within_more}
 use Rattle.base_tables.specs.Tables.{Holds}
 
-module _ (n : ℕ) (t d : List Edge) (parents low high : List ℕ) (edges : ℕ) (holds : Holds n t d parents low high edges) where
-  pub held_more : (m : ℕ) → n ≤ m → Holds m t d parents low high edges
+module _ (n : ℕ) (t d : List Edge) (parents : List ℕ) (heads : List NodeSet) (edges : ℕ) (holds : Holds n t d parents heads edges) where
+  pub held_more : (m : ℕ) → n ≤ m → Holds m t d parents heads edges
   held_more m h =
       record {
         tree_within = λ p c e. let b = holds.tree_within p c e in (omega (arith, b.0), omega (arith, b.1));
         one_parent = holds.one_parent;
         dominance_within = λ l r e. let b = holds.dominance_within l r e in (omega (arith, b.0), omega (arith, b.1));
         parents_long = holds.parents_long;
-        low_long = holds.low_long;
-        high_long = holds.high_long;
+        heads_long = holds.heads_long;
         parent_is = holds.parent_is;
         heads_are = holds.heads_are;
         edges_are = holds.edges_are;
       }
 
-  pub held_tree : n ≤ 128 → (p c : ℕ) → p < n → c < n → entered t c ≡ false → Holds n ((p, c) ∷ t) d (set parents c p) low high edges
+  pub held_tree : n ≤ 128 → (p c : ℕ) → p < n → c < n → entered t c ≡ false → Holds n ((p, c) ∷ t) d (set parents c p) heads edges
   unfolding parent single
   held_tree few p c pn cn fresh =
       record {
@@ -36,8 +36,7 @@ module _ (n : ℕ) (t d : List Edge) (parents low high : List ℕ) (edges : ℕ)
         one_parent = rw (fresh, holds.one_parent);
         dominance_within = holds.dominance_within;
         parents_long = length-set parents c p ∙ holds.parents_long;
-        low_long = holds.low_long;
-        high_long = holds.high_long;
+        heads_long = holds.heads_long;
         parent_is = parent_now;
         heads_are = holds.heads_are;
         edges_are = holds.edges_are;

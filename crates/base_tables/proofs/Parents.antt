@@ -10,6 +10,7 @@ use lib.ListN.{get_or}
 use borrow.Author.Tests.{eq-eqb, ne_eqb, eqb-true, eqb-false, lt-ltb, le-ltb, ltb-true, ltb-false}
 use Rattle.base_finite.specs.Below.{any}
 use Rattle.base_finite.proofs.Laws.{by_bool, test_ext, any_at, any_found, any_more, not_not}
+use Rattle.base_nodeset.specs.declared.NodeSet.{NodeSet}
 use Rattle.graph.specs.Graph.{Edge, entered, left, single, parent, none}
 use Rattle.theory_edges.proofs.Edges.{parent_among, parent_unentered, parent_only, left_of_among, left_found}
 use Rattle.theory_edges.specs.Edges.{Within}
@@ -60,8 +61,8 @@ module _ (n : ℕ) (t : List Edge) (parents : List ℕ) (few : n ≤ 128) (withi
       any_at n (λ c. eqb (get_or parents c 0) v) r.0 w.1
       (eq-eqb (get_or parents r.0 0) v (parent_is r.0 (omega (arith, w.1)) ∙ sym (parent_only t v r.0 one_parent r.1))))
 
-pub parents_held : (n : ℕ) (t d : List Edge) (parents low high : List ℕ) (edges : ℕ) → n ≤ 128 → Holds n t d parents low high edges → Parents n parents
-parents_held n t d parents low high edges few h =
+pub parents_held : (n : ℕ) (t d : List Edge) (parents : List ℕ) (heads : List NodeSet) (edges : ℕ) → n ≤ 128 → Holds n t d parents heads edges → Parents n parents
+parents_held n t d parents heads edges few h =
     record {
       few = few;
       long = h.parents_long;

@@ -14,10 +14,9 @@ use Rattle.base_nodeset.specs.declared.NodeSet.{NodeSet}
 use Rattle.base_nodeset.proofs.Members.{difference_out}
 use Rattle.graph.specs.Graph.{Graph, Descent}
 use Rattle.theory_forest.proofs.Closure.{path_trans}
-use Rattle.base_tables.specs.Rows.{IsRow, Closed, Tops}
-use Rattle.base_tables.specs.Sets.{in_row, Rows}
+use Rattle.base_tables.specs.Rows.{in_row, Rows, IsRow, Closed, Tops}
 
-pub descent_closed : (g : Graph) {words : List ℕ} → Rows (Descent g) words → Closed (in_row words)
+pub descent_closed : (g : Graph) {table : List NodeSet} → Rows (Descent g) table → Closed (in_row table)
 descent_closed g rows u v w p q = (rows.row_is u w).1 (path_trans ((rows.row_is u v).0 p) ((rows.row_is v w).0 q))
 
 pub record TopsSo (rows : ℕ → ℕ → Bool) (set top left : NodeSet) : Type 0 where

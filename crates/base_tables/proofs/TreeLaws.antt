@@ -20,11 +20,11 @@ use Rattle.base_tables.proofs.Parents.{parents_held}
 use Rattle.base_tables.specs.Tables.{Tables}
 
 -- the tables of a sheet's graph hold its trees
-pub tree_of : {g : Graph} {n : ℕ} {parents low high : List ℕ} {edges : ℕ} → Tables g n parents low high edges → TreeOf g n parents
+pub tree_of : {g : Graph} {n : ℕ} {parents : List ℕ} {heads : List NodeSet} {edges : ℕ} → Tables g n parents heads edges → TreeOf g n parents
 tree_of t = record { nodes = t.nodes; parent_is = t.holds.parent_is }
 
-pub tables_parents : {g : Graph} {n : ℕ} {parents low high : List ℕ} {edges : ℕ} → Tables g n parents low high edges → Parents n parents
-tables_parents t = rw t.nodes (parents_held _ _ _ _ _ _ _ t.well_formed.few_nodes t.holds)
+pub tables_parents : {g : Graph} {n : ℕ} {parents : List ℕ} {heads : List NodeSet} {edges : ℕ} → Tables g n parents heads edges → Parents n parents
+tables_parents t = rw t.nodes (parents_held _ _ _ _ _ _ t.well_formed.few_nodes t.holds)
 
 pub roots_within : (n : ℕ) (parents : List ℕ) (roots : NodeSet) → RootSet n parents roots → (v : ℕ) → mem roots v ≡ true → v < n
 unfolding node_in

@@ -1,4 +1,3 @@
 pub mod Rows
-pub mod Sets
 pub mod Tables
 pub mod Trees

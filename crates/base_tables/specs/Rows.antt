@@ -1,25 +1,33 @@
--- A sheet's table of sets, 128 of them, two words each, in two lists; and what is said of any rows.
+-- Tables of sets, 128 of them or more: a sheet's heads, and the rows that the solver works on; and what is said of any rows.
 use Rattle.std.specs.Prelude.{ℕ, ◌≡◌, List, Bool, true, cond, ◌↔◌, eqb, length, get_or}
-use Rattle.base_nodeset.specs.Set.{member, mem}
+use Rattle.base_nodeset.specs.Set.{mem}
 use Rattle.base_nodeset.specs.declared.NodeSet.{NodeSet}
 
+-- the set of no node
+abbrev pub nothing : NodeSet
+nothing = record { low = 0; high = 0 }
+
 -- a table of rows has 128
-abbrev pub Long : List ℕ → List ℕ → Type 0
-Long low high = (length low ≡ 128) × (length high ≡ 128)
+abbrev pub Long : List NodeSet → Type 0
+Long rows = length rows ≡ 128
 
 -- v is in row u
-abbrev pub in_row : List ℕ → List ℕ → ℕ → ℕ → Bool
-in_row low high u v = member (get_or low u 0) (get_or high u 0) v
+abbrev pub in_row : List NodeSet → ℕ → ℕ → Bool
+in_row rows u v = mem (get_or rows u nothing) v
 
 -- the set r is row u
 abbrev pub IsRow : (ℕ → ℕ → Bool) → ℕ → NodeSet → Type 0
 IsRow rows u r = (v : ℕ) → mem r v ≡ rows u v
 
 -- the set s stands at i, and the others are as they were
-pub record RowPut (i : ℕ) (s : NodeSet) (low high low' high' : List ℕ) : Type 0 where
-  pub low_long : length low' ≡ length low
-  pub high_long : length high' ≡ length high
-  pub row_is : (u v : ℕ) → in_row low' high' u v ≡ cond (eqb u i) (mem s v) (in_row low high u v)
+pub record RowPut (i : ℕ) (s : NodeSet) (rows rows' : List NodeSet) : Type 0 where
+  pub long : length rows' ≡ length rows
+  pub row_is : (u v : ℕ) → in_row rows' u v ≡ cond (eqb u i) (mem s v) (in_row rows u v)
+
+-- the rows hold the relation R
+pub record Rows (R : ℕ → ℕ → Type 0) (rows : List NodeSet) : Type 0 where
+  pub long : Long rows
+  pub row_is : (u v : ℕ) → (in_row rows u v ≡ true) ↔ R u v
 
 -- a row has with v all that row v has
 abbrev pub Closed : (ℕ → ℕ → Bool) → Type 0

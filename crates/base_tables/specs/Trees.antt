@@ -76,14 +76,14 @@ pub record TreesOf (g : Graph) (t : Trees) : Type 0 where
   pub leaves_are : (v : ℕ) → mem t.leaves v ≡ leaf g v
   pub roots_are : (v : ℕ) → mem t.roots v ≡ root g v
 
--- a table that gives each node a node
-pub record Owners (t : Trees) (owners : List ℕ) : Type 0 where
+-- each node has a node for its root
+pub record Owners (t : Trees) : Type 0 where
   pub bounded : Bounded t
-  pub long : t.n ≤ length owners
-  pub within : (v : ℕ) → v < t.n → get_or owners v 0 < t.n
+  pub long : t.n ≤ length t.owner
+  pub within : (v : ℕ) → v < t.n → get_or t.owner v 0 < t.n
 
 -- the trees of g, whatever its dominance edges
-pub record Fits (g : Graph) (t : Trees) (owners : List ℕ) : Type 0 where
+pub record Fits (g : Graph) (t : Trees) : Type 0 where
   pub shaped : Shaped g
   pub trees : TreesOf g t
-  pub owners_are : (v : ℕ) → v < t.n → get_or owners v 0 ≡ own g v
+  pub owners_are : (v : ℕ) → v < t.n → get_or t.owner v 0 ≡ own g v

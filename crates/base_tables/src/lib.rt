@@ -1,6 +1,17 @@
-// The tables that all code works on: sets of nodes, a table of parents.
+// The tables that all code works on: a sheet's graph, sets of nodes, a table of parents.
 #![tactic(auto)]
 
-pub mod rows;
+use base_nodeset::NodeSet;
+
 pub mod sets;
 pub mod trees;
+
+// A graph: of each node its parent (NONE: a root), of each leaf the set of roots that its dominance edges go to, and how
+// many dominance edges there are. Two graphs with the same nodes and edges are the same value.
+#[derive(Drop)]
+pub struct Graph {
+    pub n: usize,
+    pub parent: [u8; 128],
+    pub heads: [NodeSet; 128],
+    pub edges: usize,
+}

@@ -3,17 +3,18 @@ ghost use Rattle.std.specs.Prelude.{◌≡◌, true, ℕ, ◌≤◌, ◌<◌, lt
 ghost use Rattle.base_nodeset.specs.Set.{mem};
 ghost use Rattle.graph.specs.Graph.{Graph, leaf};
 ghost use Rattle.theory_forest.specs.Shape.{Shaped};
-ghost use Rattle.base_tables.specs.Trees.{Parents, InnerSet, RootSet, NodesWith, WithParent, WithNode, TreeOf, top_in, Filled, tied_in, Bounded, TreesOf};
+ghost use Rattle.base_tables.specs.Trees.{Parents, InnerSet, RootSet, NodesWith, WithParent, WithNode, TreeOf, top_in, Filled, tied_in, Owners, Fits};
 
 use base_nodeset::NodeSet;
 use graph::NONE;
 
-// How many nodes there are, which are leaves and which are roots.
-#[derive(Clone, Copy)]
+// How many nodes there are, which are leaves and which are roots, and of each node the root of its fragment.
+#[derive(Drop)]
 pub struct Trees {
     pub n: usize,
     pub leaves: NodeSet,
     pub roots: NodeSet,
+    pub owner: [u8; 128],
 }
 
 // The root of v's fragment: up to a node without a parent.
@@ -22,14 +23,12 @@ pub fn own(parent: &[u8], n: usize, v: usize) -> usize
     ensures { (result ≡ top_in n parent.now v) × (result < n) }
 {
     let mut at = v;
-    let mut left = n;
-    while 0 < left {
+    for _step in 0..n {
         let above = parent[at];
         if above == NONE {
             return at;
         }
         at = above as usize;
-        left -= 1;
     }
     at
 }
@@ -49,10 +48,7 @@ pub fn tied(parent: &[u8], u: usize, v: usize) -> bool
     requires { (length parent.now ≡ 128) × (u < 128) × (v < 128) }
     ensures { result ≡ tied_in parent.now u v }
 {
-    if parent[v] as usize == u {
-        return true;
-    }
-    parent[u] as usize == v
+    parent[v] as usize == u || parent[u] as usize == v
 }
 
 fn with_parent(set: NodeSet, above: u8) -> NodeSet
@@ -71,8 +67,8 @@ pub fn inner_nodes(parent: &[u8], n: usize) -> NodeSet
     ensures { InnerSet n parent.now result }
 {
     let mut set = NodeSet::empty();
-    for v in 0..n {
-        set = with_parent(set, parent[v]);
+    for &above in &parent[..n] {
+        set = with_parent(set, above);
     }
     set
 }
@@ -126,12 +122,15 @@ pub fn leaf_nodes(parent: &[u8], n: usize) -> NodeSet
 
 pub fn read_trees(parent: &[u8], n: usize) -> Trees
     requires { Parents n parent.now }
-    ensures bounded { Bounded result × (result.n ≡ n) }
-    ensures trees_of { (g : Graph) → Shaped g → TreeOf g n parent.now → TreesOf g result }
+    ensures bounded { Owners result × (result.n ≡ n) }
+    ensures trees_of { (g : Graph) → Shaped g → TreeOf g n parent.now → Fits g result }
 {
+    let mut owner = [0u8; 128];
+    owners(parent, n, &mut owner);
     Trees {
         n,
         leaves: leaf_nodes(parent, n),
         roots: root_nodes(parent, n),
+        owner,
     }
 }

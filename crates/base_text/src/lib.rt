@@ -7,7 +7,7 @@ ghost use Rattle.format.specs.Text.{decimal, line, count_line, refused_line};
 ghost use Rattle.base_finite.specs.Stores.{Written};
 ghost use Rattle.base_text.specs.Lines.{pair, hung_in, line_in, hex_digit, hex_line};
 
-use base_nodeset::{NodeSet, Popped};
+use base_nodeset::NodeSet;
 use format::Refusal;
 use graph::{Count, LAST, NONE};
 
@@ -18,10 +18,9 @@ fn put(bytes: &[u8], out: &mut [u8], at: usize) -> usize
     requires { at + length bytes.now ≤ length out.old }
     ensures { Written out.old at bytes.now out.new result }
 {
-    for i in 0..bytes.len() {
-        out[at + i] = bytes[i];
-    }
-    at + bytes.len()
+    let end = at + bytes.len();
+    out[at..end].copy_from_slice(bytes);
+    end
 }
 
 // A number of at most three digits, forward and with no call: almost all numbers of a reading's line are such.
@@ -72,7 +71,7 @@ pub fn refused_line(why: Refusal, out: &mut [u8], at: usize) -> usize
     requires { at + length (refused_line why) ≤ length out.old }
     ensures { Written out.old at (refused_line why) out.new result }
 {
-    let number = format::number(why) as usize;
+    let number = u8::from(why) as usize;
     number_line(b"refused ", number, out, at)
 }
 
@@ -107,16 +106,13 @@ fn all_hung(placing: &[u8], n: usize, roots: NodeSet, out: &mut [u8], at: usize)
 {
     let mut end = at;
     let mut left = roots;
-    loop {
-        let Popped::Member(r, rest) = left.pop() else {
-            return end;
-        };
+    while let Some(r) = left.pop_first() {
         if n <= r {
             return end;
         }
         end = hung(placing[r], r, out, end);
-        left = rest;
     }
+    end
 }
 
 // The line of reading k, whose placing is in the first n bytes.
@@ -145,13 +141,13 @@ fn hex_digit(d: u8) -> u8
     if d < 10 { b'0' + d } else { b'a' - 10 + d }
 }
 
+#[tactic(auto, using(crate::proofs::Lines::hex_line_length))]
 pub fn hex_line(bytes: &[u8], out: &mut [u8], at: usize) -> usize
     requires { at + length (hex_line bytes.now) ≤ length out.old }
     ensures { Written out.old at (hex_line bytes.now) out.new result }
 {
     let mut end = at;
-    for i in 0..bytes.len() {
-        let byte = bytes[i];
+    for &byte in bytes {
         out[end] = hex_digit(byte / 16);
         out[end + 1] = hex_digit(byte % 16);
         end += 2;

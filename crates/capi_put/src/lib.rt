@@ -2,16 +2,14 @@
 #![tactic(auto)]
 
 ghost use Rattle.std.specs.Prelude.{◌≡◌, cond, ◌≤◌};
-ghost use Rattle.solve_answer.specs.Calls.{count_number, placed_number, drawn_number, placing_number};
-ghost use Rattle.counter.specs.Checks.{measured_number, cycle_number, tidied_number, table_number};
-ghost use Rattle.capi_put.specs.Values.{count_value, bits, readings_of, pairs_of, drawn_of, nodes_of, tidied_of, records_of, yes_of, answers_of};
+ghost use Rattle.solve_answer.specs.Calls.{refusal_number, placed_number};
+ghost use Rattle.capi_put.specs.Values.{count_value, bits, carried, pairs_of};
 
 use check_placing::Answers;
-use counter::{Counted, CycleChecked, Drawn, Measured, Next, Placed, PlacingChecked};
-use format::{Refusal, number};
+use counter::Next;
+use format::Refusal;
 use graph::Count;
-use sheet_encode::Tidied;
-use sheet_fragments::Table;
+use solve_answer::Unplaced;
 
 // What stands for more than 65,535 readings.
 const MORE: u64 = 65536;
@@ -23,12 +21,37 @@ const CONFIGURATION: u8 = 2;
 
 const READING: u8 = 4;
 
-fn value(count: Count) -> u64
-    ensures { result ≡ count_value count }
-{
-    match count {
-        Count::Exactly(k) => k as u64,
-        Count::More => MORE,
+// What an answer carries, and how the caller in C gets it.
+pub trait Carried {
+    type Number: Copy;
+
+    ghost as_number: { Self → Self.Number };
+
+    fn number(self) -> Self::Number
+        ensures { result ≡ as_number self };
+}
+
+// A length, or how many nodes or records there are.
+impl Carried for usize {
+    type Number = u64;
+
+    ghost as_number = { λ k. k };
+
+    fn number(self) -> u64 {
+        self as u64
+    }
+}
+
+impl Carried for Count {
+    type Number = u64;
+
+    ghost as_number = { count_value };
+
+    fn number(self) -> u64 {
+        match self {
+            Count::Exactly(k) => k as u64,
+            Count::More => MORE,
+        }
     }
 }
 
@@ -39,125 +62,63 @@ fn bit(yes: bool, value: u8) -> u8
     if yes { value } else { 0 }
 }
 
-fn answer_bits(a: Answers) -> u8
-    ensures { result ≡ bits a }
-{
-    bit(a.solved, SOLVED_FORM) + bit(a.configuration, CONFIGURATION) + bit(a.reading, READING)
-}
+impl Carried for bool {
+    type Number = u8;
 
-pub fn put_count(answer: Counted, readings: &mut u64) -> u8
-    ensures value { result ≡ count_number answer }
-    ensures readings_after { readings.new ≡ readings_of answer readings.old }
-{
-    match answer {
-        Counted::Readings(count) => {
-            *readings = value(count);
-            0
-        }
-        Counted::Refused(why) => number(why),
+    ghost as_number = { λ yes. cond yes 1 0 };
+
+    fn number(self) -> u8 {
+        bit(self, 1)
     }
 }
 
-pub fn put_placed(answer: Placed, pairs: &mut u64) -> u8
+impl Carried for Answers {
+    type Number = u8;
+
+    ghost as_number = { bits };
+
+    fn number(self) -> u8 {
+        bit(self.solved, SOLVED_FORM)
+            + bit(self.configuration, CONFIGURATION)
+            + bit(self.reading, READING)
+    }
+}
+
+// 0 or the refusal's number. A refusal leaves the place for the value as it was.
+pub fn put<A: Carried>(answer: Result<A, Refusal>, value: &mut A::Number) -> u8
+    ensures number { result ≡ refusal_number answer }
+    ensures value_after { value.new ≡ carried A.as_number answer value.old }
+{
+    match answer {
+        Ok(carried) => {
+            *value = carried.number();
+            0
+        }
+        Err(why) => u8::from(why),
+    }
+}
+
+// The same of a reading or a configuration, which carries nothing, where its refusal has the pairs of a cycle.
+pub fn put_placed(answer: Result<(), Unplaced>, pairs: &mut u64) -> u8
     ensures value { result ≡ placed_number answer }
     ensures pairs_after { pairs.new ≡ pairs_of answer pairs.old }
 {
     match answer {
-        Placed::Done => 0,
-        Placed::NoReading(c) => {
+        Ok(()) => 0,
+        Err(Unplaced::NoReading(c)) => {
             *pairs = c as u64;
-            number(Refusal::NoReading)
+            u8::from(Refusal::NoReading)
         }
-        Placed::Refused(why) => number(why),
+        Err(Unplaced::Refused(why)) => u8::from(why),
     }
 }
 
-// After a refusal the place handed back is the one that was taken.
+// The same of a reading, with the place moved on: after a refusal it is the one that was taken.
 pub fn put_next(next: Next, place: &mut u64, pairs: &mut u64) -> u8
     ensures value { result ≡ placed_number next.answer }
     ensures place_after { place.new ≡ next.place.number }
     ensures pairs_after { pairs.new ≡ pairs_of next.answer pairs.old }
 {
-    let answer = next.answer;
-    let moved = next.place;
-    *place = moved.number as u64;
-    put_placed(answer, pairs)
-}
-
-pub fn put_drawn(answer: Drawn, written: &mut u64) -> u8
-    ensures value { result ≡ drawn_number answer }
-    ensures written_after { written.new ≡ drawn_of answer written.old }
-{
-    match answer {
-        Drawn::Length(k) => {
-            *written = k as u64;
-            0
-        }
-        Drawn::Refused(why) => number(why),
-    }
-}
-
-pub fn put_nodes(answer: Measured, nodes: &mut u64) -> u8
-    ensures value { result ≡ measured_number answer }
-    ensures nodes_after { nodes.new ≡ nodes_of answer nodes.old }
-{
-    match answer {
-        Measured::Nodes(n) => {
-            *nodes = n as u64;
-            0
-        }
-        Measured::Refused(why) => number(why),
-    }
-}
-
-pub fn put_tidied(answer: Tidied, written: &mut u64) -> u8
-    ensures value { result ≡ tidied_number answer }
-    ensures written_after { written.new ≡ tidied_of answer written.old }
-{
-    match answer {
-        Tidied::Length(k) => {
-            *written = k as u64;
-            0
-        }
-        Tidied::Refused(why) => number(why),
-    }
-}
-
-pub fn put_table(answer: Table, records: &mut u64) -> u8
-    ensures value { result ≡ table_number answer }
-    ensures records_after { records.new ≡ records_of answer records.old }
-{
-    match answer {
-        Table::Filled(k) => {
-            *records = k as u64;
-            0
-        }
-        Table::Refused(why) => number(why),
-    }
-}
-
-pub fn put_cycle(answer: CycleChecked, yes: &mut u8) -> u8
-    ensures value { result ≡ cycle_number answer }
-    ensures yes_after { yes.new ≡ yes_of answer yes.old }
-{
-    match answer {
-        CycleChecked::Answer(is) => {
-            *yes = bit(is, 1);
-            0
-        }
-        CycleChecked::Refused(why) => number(why),
-    }
-}
-
-pub fn put_placing(answer: PlacingChecked, answers: &mut u8) -> u8
-    ensures value { result ≡ placing_number answer }
-    ensures answers_after { answers.new ≡ answers_of answer answers.old }
-{
-    match answer {
-        PlacingChecked::Answers(a) => {
-            *answers = answer_bits(a);
-            0
-        }
-        PlacingChecked::Refused(why) => number(why),
-    }
+    *place = next.place.number as u64;
+    put_placed(next.answer, pairs)
 }

@@ -20,10 +20,11 @@ use Rattle.theory_edges.proofs.Pigeonhole.{pigeonhole}
 use Rattle.theory_forest.proofs.Shape.{well_formed_shaped}
 use Rattle.theory_forest.proofs.Fragments.{leaf_not_root}
 use Rattle.theory_refutes.proofs.Cycles.{SameEdge, same_edge_lem, Joined, joined_cases, joined_below, CycleFacts, cycle_facts, DominanceAt, dominance_at_lem, hypernormal_leaf}
+use Rattle.base_nodeset.specs.declared.NodeSet.{NodeSet}
 use Rattle.base_tables.specs.Rows.{in_row}
 use Rattle.base_tables.specs.Tables.{Tables}
 use Rattle.base_tables.specs.Trees.{tied_in}
-use Rattle.check_cycle.specs.Check.{NodesBelow, sized, fresh, nodes_differ, dominance_joins, joined_in, all_joined, two_kinds, starts_at, spare, leaves_differ, check_in}
+use Rattle.check_cycle.specs.Check.{NodesBelow, sized, fresh, nodes_differ, dominance_joins, joined_in, all_joined, two_kinds, starts_from, starts_at, spare, leaves_differ, check_in}
 use Rattle.theory_refutes.proofs.Places.{next_inner, next_last, next_below, edges_differ}
 use Rattle.check_cycle.proofs.Scans.{seen_before, used_before, node_new, leaf_first, leaf_second}
 
@@ -69,13 +70,13 @@ cycle_parts g bs c =
     let rest = and_both (even && two && nodes) joints (and_both (even && two && nodes && joints) edges c).0 in
     ((and_both even two (and_both (even && two) nodes rest.0).0).0, rest.1)
 
-starts_kind : (low high bs : List ℕ) (i x : ℕ) → starts_at low high bs i x ≡ true → kind bs i ≡ 3
-unfolding starts_at
-starts_kind low high bs i x s = eqb-true (kind bs i) 3 (and_both (eqb (kind bs i) 3) _ s).0
+starts_kind : (heads : List NodeSet) (bs : List ℕ) (i x : ℕ) → starts_at heads bs i x ≡ true → kind bs i ≡ 3
+unfolding starts_from
+starts_kind heads bs i x s = eqb-true (kind bs i) 3 (and_both (eqb (kind bs i) 3) _ s).0
 
 -- the edges of the tables
 
-module _ (g : Graph) (n : ℕ) (parents low high : List ℕ) (edges : ℕ) (t : Tables g n parents low high edges) where
+module _ (g : Graph) (n : ℕ) (parents : List ℕ) (heads : List NodeSet) (edges : ℕ) (t : Tables g n parents heads edges) where
   few : g.nodes ≤ 128
   few = t.well_formed.few_nodes
 
@@ -90,7 +91,7 @@ module _ (g : Graph) (n : ℕ) (parents low high : List ℕ) (edges : ℕ) (t : 
       (λ (i : entered g.tree v ≡ false). absurd (omega (arith, few, parent_unentered g.tree v i))))
       (λ e. eq-eqb (get_or parents v 0) u (is ∙ sym (parent_only g.tree u v t.holds.one_parent e)))
 
-  joined_held : (k u v : ℕ) → u < g.nodes → v < g.nodes → joined_in parents low high k u v ≡ joined g k u v
+  joined_held : (k u v : ℕ) → u < g.nodes → v < g.nodes → joined_in parents heads k u v ≡ joined g k u v
   unfolding joined_in joined tied_in dominance_joins
   joined_held k u v hu hv = rw (tree_held u v hu hv, tree_held v u hv hu, t.holds.heads_are u v, t.holds.heads_are v u)
 
@@ -102,7 +103,7 @@ module _ (g : Graph) (n : ℕ) (parents low high : List ℕ) (edges : ℕ) (t : 
   not_head u v l d = leaf_not_root g (well_formed_shaped t.well_formed) v l (t.well_formed.leaf_to_root u v d).1
 
   -- a dominance edge between u and v that is not from u to v is from v to u
-  turned : (k u v : ℕ) → k ≡ 3 → in_row low high u v ≡ false → Joined g k u v → DominanceEdge g v u
+  turned : (k u v : ℕ) → k ≡ 3 → in_row heads u v ≡ false → Joined g k u v → DominanceEdge g v u
   turned k u v h e (inl (q, d)) = absurd (omega arith)
   turned k u v h e (inr (q, inl d)) = absurd (true≢false (sym d ∙ sym (t.holds.heads_are u v) ∙ e))
   turned k u v h e (inr (q, inr d)) = d
@@ -110,33 +111,33 @@ module _ (g : Graph) (n : ℕ) (parents low high : List ℕ) (edges : ℕ) (t : 
   -- the leaf of a dominance edge
 
   module _ (bs : List ℕ) (i : ℕ) (j : Joined g (kind bs i) (node bs i) (next bs i)) where
-    starts_leaf : (x : ℕ) → starts_at low high bs i x ≡ true → (leaf g x ≡ true) × DominanceAt bs x i
+    starts_leaf : (x : ℕ) → starts_at heads bs i x ≡ true → (leaf g x ≡ true) × DominanceAt bs x i
     starts_leaf x s =
         let u : ℕ = node bs i in
         let v : ℕ = next bs i in
-        let three : kind bs i ≡ 3 = starts_kind low high bs i x s in
-        by_bool (in_row low high u v)
-        (λ (e : in_row low high u v ≡ true).
-        let q : x ≡ u = eqb-true x u (sym (leaf_first low high bs i three e x) ∙ s) in
+        let three : kind bs i ≡ 3 = starts_kind heads bs i x s in
+        by_bool (in_row heads u v)
+        (λ (e : in_row heads u v ≡ true).
+        let q : x ≡ u = eqb-true x u (sym (leaf_first heads bs i three e x) ∙ s) in
         (rw q (edge_leaf u v (sym (t.holds.heads_are u v) ∙ e)), (three, inl (sym q))))
-        (λ (e : in_row low high u v ≡ false).
-        let q : x ≡ v = eqb-true x v (sym (leaf_second low high bs i three e x) ∙ s) in
+        (λ (e : in_row heads u v ≡ false).
+        let q : x ≡ v = eqb-true x v (sym (leaf_second heads bs i three e x) ∙ s) in
         (rw q (edge_leaf v u (turned (kind bs i) u v three e j)), (three, inr (sym q))))
 
-    leaf_starts : (x : ℕ) → leaf g x ≡ true → DominanceAt bs x i → starts_at low high bs i x ≡ true
+    leaf_starts : (x : ℕ) → leaf g x ≡ true → DominanceAt bs x i → starts_at heads bs i x ≡ true
     leaf_starts x l d =
         let u : ℕ = node bs i in
         let v : ℕ = next bs i in
-        by_bool (in_row low high u v)
-        (λ (e : in_row low high u v ≡ true).
-        leaf_first low high bs i d.0 e x
+        by_bool (in_row heads u v)
+        (λ (e : in_row heads u v ≡ true).
+        leaf_first heads bs i d.0 e x
         ∙ eq-eqb x u
         (⊎_elim
         (λ (q : u ≡ x). sym q)
         (λ (q : v ≡ x). absurd (not_head u v (rw q l) (sym (t.holds.heads_are u v) ∙ e)))
         d.1))
-        (λ (e : in_row low high u v ≡ false).
-        leaf_second low high bs i d.0 e x
+        (λ (e : in_row heads u v ≡ false).
+        leaf_second heads bs i d.0 e x
         ∙ eq-eqb x v
         (⊎_elim
         (λ (q : u ≡ x). absurd (not_head v u (rw q l) (turned (kind bs i) u v d.0 e j)))
@@ -177,10 +178,10 @@ module _ (g : Graph) (n : ℕ) (parents low high : List ℕ) (edges : ℕ) (t : 
           (any_none i (λ j. eqb (node bs i) (node bs j)) (λ j d.
           ne_eqb (node bs i) (node bs j) (λ e. omega (arith, facts.one_place i j l (omega arith) e)))))
 
-      passes_joined : all_joined parents low high bs ≡ true
+      passes_joined : all_joined parents heads bs ≡ true
       unfolding all_joined
       passes_joined =
-          all_every (pairs bs) (λ i. joined_in parents low high (kind bs i) (node bs i) (next bs i)) (λ i l.
+          all_every (pairs bs) (λ i. joined_in parents heads (kind bs i) (node bs i) (next bs i)) (λ i l.
           joined_held (kind bs i) (node bs i) (next bs i) (ends_below i l) (next_below bs g.nodes i ends_below l) ∙ all_at (pairs bs) (λ i. joined g (kind bs i) (node bs i) (next bs i)) (cycle_parts g bs c).1 i l)
 
       passes_kinds : two_kinds bs ≡ true
@@ -199,15 +200,15 @@ module _ (g : Graph) (n : ℕ) (parents low high : List ℕ) (edges : ℕ) (t : 
           in
           rw no
 
-      passes_leaves : leaves_differ low high bs ≡ true
+      passes_leaves : leaves_differ heads bs ≡ true
       unfolding leaves_differ spare
       passes_leaves =
-          all_every (pairs bs) (spare low high bs) (λ i l.
-          let no : any 128 (λ x. used_before low high bs i x && starts_at low high bs i x) ≡ false =
-          any_none 128 (λ x. used_before low high bs i x && starts_at low high bs i x) (λ x few.
-          not_holding (used_before low high bs i x && starts_at low high bs i x) (λ b.
-          let p = and_both (used_before low high bs i x) (starts_at low high bs i x) b in
-          let r = any_found i (λ j. starts_at low high bs j x) p.0 in
+          all_every (pairs bs) (spare heads bs) (λ i l.
+          let no : any 128 (λ x. used_before heads bs i x && starts_at heads bs i x) ≡ false =
+          any_none 128 (λ x. used_before heads bs i x && starts_at heads bs i x) (λ x few.
+          not_holding (used_before heads bs i x && starts_at heads bs i x) (λ b.
+          let p = and_both (used_before heads bs i x) (starts_at heads bs i x) b in
+          let r = any_found i (λ j. starts_at heads bs j x) p.0 in
           let here = starts_leaf bs i (facts.joins i l) x p.1 in
           let there = starts_leaf bs r.0 (facts.joins r.0 (omega (arith, r.1))) x r.2 in
           let one : i ≡ r.0 = hypernormal_leaf g bs h x i r.0 here.0 l (omega (arith, r.1)) here.1 there.1 in
@@ -220,9 +221,9 @@ module _ (g : Graph) (n : ℕ) (parents low high : List ℕ) (edges : ℕ) (t : 
     module _
         (s : sized n bs ≡ true)
         (d : nodes_differ n bs ≡ true)
-        (j : all_joined parents low high bs ≡ true)
+        (j : all_joined parents heads bs ≡ true)
         (k : two_kinds bs ≡ true)
-        (f : leaves_differ low high bs ≡ true) where
+        (f : leaves_differ heads bs ≡ true) where
       below_n : NodesBelow g.nodes bs
       below_n i l = omega (arith, nodes_below n bs d i l, t.nodes)
 
@@ -230,7 +231,7 @@ module _ (g : Graph) (n : ℕ) (parents low high : List ℕ) (edges : ℕ) (t : 
       unfolding all_joined
       is_joined i l =
           sym (joined_held (kind bs i) (node bs i) (next bs i) (below_n i l) (next_below bs g.nodes i below_n l))
-          ∙ all_at (pairs bs) (λ i. joined_in parents low high (kind bs i) (node bs i) (next bs i)) j i l
+          ∙ all_at (pairs bs) (λ i. joined_in parents heads (kind bs i) (node bs i) (next bs i)) j i l
 
       is_cycle : cycle g bs ≡ true
       unfolding cycle
@@ -241,16 +242,16 @@ module _ (g : Graph) (n : ℕ) (parents low high : List ℕ) (edges : ℕ) (t : 
           let apart = all_apart (pairs bs) (same_edge bs) (λ i j l e q. edges_apart n bs d k i j l e ((same_edge_lem bs i j).0 q)) in
           rw (eq-eqb (length bs % 2) 0 two.0, le-leb 2 (pairs bs) two.1, nodes, joints, apart)
 
-      starts_at_lem : (x i : ℕ) → leaf g x ≡ true → i < pairs bs → dominance_at bs x i ≡ true → starts_at low high bs i x ≡ true
+      starts_at_lem : (x i : ℕ) → leaf g x ≡ true → i < pairs bs → dominance_at bs x i ≡ true → starts_at heads bs i x ≡ true
       starts_at_lem x i l h e = leaf_starts bs i (joined_cases g (kind bs i) (node bs i) (next bs i) (is_joined i h)) x l ((dominance_at_lem bs x i).0 e)
 
       one_edge_each : (x : ℕ) → leaf g x ≡ true → x < 128 → (i j : ℕ) → i < pairs bs → j < i → dominance_at bs x i ≡ true → dominance_at bs x j ≡ true → ⊥
       unfolding leaves_differ spare
       one_edge_each x l b i j h e p q =
-          let none = not-true (any 128 (λ x. used_before low high bs i x && starts_at low high bs i x)) (all_at (pairs bs) (spare low high bs) f i h) in
-          let free = any_false 128 (λ x. used_before low high bs i x && starts_at low high bs i x) none x b in
-          let used : used_before low high bs i x ≡ true = any_at i (λ j. starts_at low high bs j x) j e (starts_at_lem x j l (omega arith) q) in
-          true≢false (sym (and_intro (used_before low high bs i x) (starts_at low high bs i x) used (starts_at_lem x i l h p)) ∙ free)
+          let none = not-true (any 128 (λ x. used_before heads bs i x && starts_at heads bs i x)) (all_at (pairs bs) (spare heads bs) f i h) in
+          let free = any_false 128 (λ x. used_before heads bs i x && starts_at heads bs i x) none x b in
+          let used : used_before heads bs i x ≡ true = any_at i (λ j. starts_at heads bs j x) j e (starts_at_lem x j l (omega arith) q) in
+          true≢false (sym (and_intro (used_before heads bs i x) (starts_at heads bs i x) used (starts_at_lem x i l h p)) ∙ free)
 
       is_hypernormal : hypernormal g bs ≡ true
       unfolding hypernormal
@@ -261,15 +262,15 @@ module _ (g : Graph) (n : ℕ) (parents low high : List ℕ) (edges : ℕ) (t : 
           (λ (l : leaf g x ≡ true). or_right (not (leaf g x)) (leb c 1) (le-leb c 1 (count_one (pairs bs) (dominance_at bs x) (one_edge_each x l (omega (arith, few))))))
           (λ (l : leaf g x ≡ false). rw l))
 
-    pub check_is : check_in n parents low high bs ≡ hypernormal_cycle g bs
+    pub check_is : check_in n parents heads bs ≡ hypernormal_cycle g bs
     unfolding check_in hypernormal_cycle
     check_is =
         test_ext _ _
         (λ e.
         let a = and_both (sized n bs) _ e in
         let b = and_both (nodes_differ n bs) _ a.1 in
-        let j = and_both (all_joined parents low high bs) _ b.1 in
-        let k = and_both (two_kinds bs) (leaves_differ low high bs) j.1 in
+        let j = and_both (all_joined parents heads bs) _ b.1 in
+        let k = and_both (two_kinds bs) (leaves_differ heads bs) j.1 in
         rw (is_cycle a.0 b.0 j.0 k.0 k.1, is_hypernormal a.0 b.0 j.0 k.0 k.1))
         (λ e.
         let b = and_both (cycle g bs) (hypernormal g bs) e in

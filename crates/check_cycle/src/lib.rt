@@ -4,45 +4,45 @@
 mod edge;
 mod place;
 
-ghost use Rattle.std.specs.Prelude.{◌≡◌, ℕ, ◌≤◌, ◌<◌, length};
+ghost use Rattle.std.specs.Prelude.{◌≡◌, ℕ, not, ◌&&◌, ◌≤◌, ltb};
+ghost use Rattle.base_nodeset.specs.Set.{mem};
 ghost use Rattle.graph.specs.Graph as spec;
 ghost use Rattle.graph.specs.Cycle.{pairs, hypernormal_cycle};
 ghost use Rattle.base_tables.specs.Tables.{Tables};
-ghost use Rattle.check_cycle.specs.Check.{NodesBelow, sized, nodes_differ, all_joined, two_kinds, LeafSet, leaves_differ};
+ghost use Rattle.check_cycle.specs.Check.{NodesBelow, sized, nodes_differ, all_joined, two_kinds, leaves_differ};
 
-use crate::edge::joined;
-use crate::place::{kind_at, next_at, node_at};
+use crate::edge::{joined, leaf};
+use crate::place::{edge_at, kind_at, node_at};
 use base_nodeset::NodeSet;
-use base_tables::rows::in_row;
-use graph::DOMINANCE;
+use base_tables::Graph;
 
 // An even number of bytes, two pairs or more, and no more pairs than nodes: a longer cycle would repeat a node.
+#[tactic(auto, unfolding(crate::specs::Check::sized, graph::specs::Cycle::pairs))]
 fn well_sized(cycle: &[u8], n: usize) -> bool
     ensures { result ≡ sized n cycle.now }
 {
-    if cycle.len() % 2 != 0 {
-        return false;
-    }
     let pairs = cycle.len() / 2;
-    if pairs < 2 {
-        return false;
-    }
-    pairs <= n
+    cycle.len() % 2 == 0 && 2 <= pairs && pairs <= n
+}
+
+// The number is a node's, and none of those seen.
+fn is_new(node: usize, n: usize, seen: NodeSet) -> bool
+    requires { n ≤ 128 }
+    ensures { result ≡ (ltb node n && not (mem seen node)) }
+{
+    node < n && !seen.has(node)
 }
 
 // The nodes are below n, and none stands at two places.
+#[tactic(auto, unfolding(graph::specs::Cycle::pairs))]
 fn nodes_differ(cycle: &[u8], n: usize) -> bool
     requires { n ≤ 128 }
     ensures { result ≡ nodes_differ n cycle.now }
 {
-    let pairs = cycle.len() / 2;
     let mut seen = NodeSet::empty();
-    for i in 0..pairs {
+    for i in 0..cycle.len() / 2 {
         let node = node_at(cycle, i);
-        if n <= node {
-            return false;
-        }
-        if seen.has(node) {
+        if !is_new(node, n, seen) {
             return false;
         }
         seen = seen.with(node);
@@ -51,16 +51,13 @@ fn nodes_differ(cycle: &[u8], n: usize) -> bool
 }
 
 // Each node is joined to the next by an edge of the kind that stands between them.
-fn all_joined(parent: &[u8], low: &[u64], high: &[u64], cycle: &[u8]) -> bool
-    requires { (length parent.now ≡ 128) × (length low.now ≡ 128) × (length high.now ≡ 128) × NodesBelow 128 cycle.now }
-    ensures { result ≡ all_joined parent.now low.now high.now cycle.now }
+#[tactic(auto, unfolding(graph::specs::Cycle::pairs))]
+fn all_joined(graph: &Graph, cycle: &[u8]) -> bool
+    requires { NodesBelow 128 cycle.now }
+    ensures { result ≡ all_joined graph.now.parent graph.now.heads cycle.now }
 {
-    let pairs = cycle.len() / 2;
-    for i in 0..pairs {
-        let kind = kind_at(cycle, i);
-        let node = node_at(cycle, i);
-        let next = next_at(cycle, i);
-        if !joined(parent, low, high, kind, node, next) {
+    for i in 0..cycle.len() / 2 {
+        if !joined(graph, edge_at(cycle, i)) {
             return false;
         }
     }
@@ -68,42 +65,23 @@ fn all_joined(parent: &[u8], low: &[u64], high: &[u64], cycle: &[u8]) -> bool
 }
 
 // Two edges between the same two nodes are of different kinds; only a cycle of two nodes has such.
+#[tactic(auto, unfolding(crate::specs::Check::two_kinds, graph::specs::Cycle::pairs))]
 fn edges_differ(cycle: &[u8]) -> bool
     requires { 2 ≤ pairs cycle.now }
     ensures { result ≡ two_kinds cycle.now }
 {
-    if cycle.len() / 2 == 2 {
-        kind_at(cycle, 0) != kind_at(cycle, 1)
-    } else {
-        true
-    }
-}
-
-// The leaf that the edge at i starts from, if it is a dominance edge.
-fn leaf_at(low: &[u64], high: &[u64], cycle: &[u8], i: usize) -> NodeSet
-    requires { (length low.now ≡ 128) × (length high.now ≡ 128) × NodesBelow 128 cycle.now × (i < pairs cycle.now) }
-    ensures { LeafSet low.now high.now cycle.now i result }
-{
-    if kind_at(cycle, i) != DOMINANCE {
-        return NodeSet::empty();
-    }
-    let node = node_at(cycle, i);
-    let next = next_at(cycle, i);
-    if in_row(low, high, node, next) {
-        return NodeSet::only(node);
-    }
-    NodeSet::only(next)
+    cycle.len() / 2 != 2 || kind_at(cycle, 0) != kind_at(cycle, 1)
 }
 
 // No leaf has two dominance edges of the cycle.
-fn leaves_differ(low: &[u64], high: &[u64], cycle: &[u8]) -> bool
-    requires { (length low.now ≡ 128) × (length high.now ≡ 128) × NodesBelow 128 cycle.now }
-    ensures { result ≡ leaves_differ low.now high.now cycle.now }
+#[tactic(auto, unfolding(graph::specs::Cycle::pairs))]
+fn leaves_differ(graph: &Graph, cycle: &[u8]) -> bool
+    requires { NodesBelow 128 cycle.now }
+    ensures { result ≡ leaves_differ graph.now.heads cycle.now }
 {
-    let pairs = cycle.len() / 2;
     let mut used = NodeSet::empty();
-    for i in 0..pairs {
-        let leaf = leaf_at(low, high, cycle, i);
+    for i in 0..cycle.len() / 2 {
+        let leaf = leaf(graph, edge_at(cycle, i));
         if !used.intersection(leaf).is_empty() {
             return false;
         }
@@ -113,23 +91,15 @@ fn leaves_differ(low: &[u64], high: &[u64], cycle: &[u8]) -> bool
 }
 
 // "It accepts cycles from anybody": nothing is asked of the bytes.
-pub fn check(parent: &[u8], low: &[u64], high: &[u64], n: usize, cycle: &[u8]) -> bool
-    requires { (n ≤ 128) × (length parent.now ≡ 128) × (length low.now ≡ 128) × (length high.now ≡ 128) }
+pub fn check(graph: &Graph, cycle: &[u8]) -> bool
+    requires { graph.now.n ≤ 128 }
     ensures { (g : spec.Graph) (edges : ℕ)
-        → Tables g n parent.now low.now high.now edges
+        → Tables g graph.now.n graph.now.parent graph.now.heads edges
         → result ≡ hypernormal_cycle g cycle.now }
 {
-    if !well_sized(cycle, n) {
-        return false;
-    }
-    if !nodes_differ(cycle, n) {
-        return false;
-    }
-    if !all_joined(parent, low, high, cycle) {
-        return false;
-    }
-    if !edges_differ(cycle) {
-        return false;
-    }
-    leaves_differ(low, high, cycle)
+    well_sized(cycle, graph.n)
+        && nodes_differ(cycle, graph.n)
+        && all_joined(graph, cycle)
+        && edges_differ(cycle)
+        && leaves_differ(graph, cycle)
 }

@@ -6,7 +6,7 @@ use mathlib.Core.List.{List}
 use mathlib.Core.Bool.{Bool, true, false, true≢false}
 use mathlib.Core.Logic.{⊎_elim, ◌↔◌}
 use native.Mathlib.Omega.{arith}
-use lib.ListN.{length}
+use Rattle.base_nodeset.specs.declared.NodeSet.{NodeSet}
 use Rattle.graph.specs.Graph.{Graph, own}
 use Rattle.graph.specs.Order.{Choice, adding}
 use Rattle.graph.specs.Placing.{Below, SolvedForm, Reading}
@@ -23,21 +23,17 @@ use Rattle.theory_list.specs.Keeping.{Fresh}
 use Rattle.theory_list.proofs.Keeping.{first_fresh, second_fresh}
 use Rattle.theory_list.specs.Guided.{Leads, arrived, to_first, to_second}
 use Rattle.theory_list.proofs.Guided.{solved_loopless, leads_solved, leads_within, leads_reading}
-use Rattle.base_tables.specs.Sets.{in_row, Rows}
-use Rattle.base_tables.specs.Trees.{TreeOf, Filled, Bounded, TreesOf, Owners, Fits}
+use Rattle.base_tables.specs.Rows.{in_row, Rows}
+use Rattle.base_tables.specs.Trees.{Fits}
 use Rattle.base_tables.specs.declared.trees.Trees.{Trees}
-use Rattle.base_tables.proofs.TreeLaws.{own_is}
 use Rattle.solve_closure.proofs.Laws.{rows_map}
 use Rattle.solve_reduce.specs.Reduced.{Reduced}
-use Rattle.check_placing.specs.Guide.{Owned, Into, HalfOf, Standing, Arrived}
+use Rattle.check_placing.specs.Guide.{Into, HalfOf, Standing, Arrived}
 use Rattle.check_placing.specs.declared.guide.Edge.{Edge}
 
 -- the half that p is in
 
-module _ (g : Graph) (p : List ℕ) {under : List ℕ} (rows : Rows (Below g p) under) (a b over : ℕ) (is : over ≡ own g b) where
-  pub first_half : in_row under a over ≡ true → Into g p a b a over
-  first_half t = (refl, is, (rows.row_is a over).0 t)
-
+module _ (g : Graph) (p : List ℕ) {under : List NodeSet} (rows : Rows (Below g p) under) (a b over : ℕ) (is : over ≡ own g b) where
   pub second_half : Shaped g → {v : ℕ} → Choice g v a b → SolvedForm g p → in_row under a over ≡ false → (up : ℕ) → up ≡ own g a → Into g p b a b up
   second_half s c f t up e = (
     refl,
@@ -50,11 +46,8 @@ module _ (g : Graph) (p : List ℕ) {under : List ℕ} (rows : Rows (Below g p) 
 
 -- one choice
 
-pub owned : {t : Trees} {owners : List ℕ} → Owners t owners → (v : ℕ) → v < t.n → Owned owners v
-owned o v h = (omega (arith, o.bounded.few), omega (arith, o.long), omega (arith, o.within v h, o.bounded.few))
-
 -- the trees stay
-fits_adding : {g : Graph} {t : Trees} {owners : List ℕ} (l r : ℕ) → Shaped (adding g l r) → Fits g t owners → Fits (adding g l r) t owners
+fits_adding : {g : Graph} {t : Trees} (l r : ℕ) → Shaped (adding g l r) → Fits g t → Fits (adding g l r) t
 unfolding adding own
 fits_adding {g} l r s f =
     record {
@@ -67,16 +60,16 @@ fits_adding {g} l r s f =
       owners_are = f.owners_are;
     }
 
-module _ {g : Graph} {p : List ℕ} {t : Trees} {owners under : List ℕ} {k : ℕ} {sets : List ℕ} (st : Standing g p t owners under k sets) where
-  onward : (l r : ℕ) {sets' : List ℕ} → Fresh st.graph l r → Below st.graph p l r → pairs st.graph < pairs (adding st.graph l r)
+module _ {g : Graph} {p : List ℕ} {t : Trees} {under : List NodeSet} {k : ℕ} {sets : List NodeSet} (st : Standing g p t under k sets) where
+  onward : (l r : ℕ) {sets' : List NodeSet} → Fresh st.graph l r → Below st.graph p l r → pairs st.graph < pairs (adding st.graph l r)
       → ((q : List ℕ) → Leads (adding st.graph l r) p q → Leads st.graph p q)
-      → ((h : Graph) → Fits h t owners → Loopless h → Fresh h l r → Reduced h t.n sets → Reduced (adding h l r) t.n sets')
-      → Standing g p t owners under (k - 1) sets'
+      → ((h : Graph) → Fits h t → Loopless h → Fresh h l r → Reduced h t.n sets → Reduced (adding h l r) t.n sets')
+      → Standing g p t under (k - 1) sets'
   onward l r new d grown way added =
       let h : Graph = st.graph in
       let s : Shaped h = st.given.shaped in
       let f : SolvedForm (adding h l r) p = (solved_adding h l r p).1 (st.solved, d) in
-      let fits : Fits (adding h l r) t owners = fits_adding l r (adding_shaped h l r s new.from_leaf new.to_root) st.fits in
+      let fits : Fits (adding h l r) t = fits_adding l r (adding_shaped h l r s new.from_leaf new.to_root) st.fits in
       record {
         graph = adding h l r;
         given = record {
@@ -92,9 +85,9 @@ module _ {g : Graph} {p : List ℕ} {t : Trees} {owners under : List ℕ} {k : �
         enough = omega (arith, st.enough);
       }
 
-  pub turned : (v a b : ℕ) (e : Edge) {sets' : List ℕ} → Choice st.graph v a b → HalfOf st.graph p a b e
-      → ((h : Graph) → Fits h t owners → Loopless h → Fresh h e.leaf e.root → Reduced h t.n sets → Reduced (adding h e.leaf e.root) t.n sets')
-      → Standing g p t owners under (k - 1) sets'
+  pub turned : (v a b : ℕ) (e : Edge) {sets' : List NodeSet} → Choice st.graph v a b → HalfOf st.graph p a b e
+      → ((h : Graph) → Fits h t → Loopless h → Fresh h e.leaf e.root → Reduced h t.n sets → Reduced (adding h e.leaf e.root) t.n sets')
+      → Standing g p t under (k - 1) sets'
   turned v a b e c half added =
       let h : Graph = st.graph in
       let s : Shaped h = st.given.shaped in
@@ -136,7 +129,7 @@ leads_iff {g} {p} {q} x s f = (
   λ r. reading_least g s p q r (leads_solved x s) (leads_within x s f),
 )
 
-pub reads : {g : Graph} {p : List ℕ} {t : Trees} {sets : List ℕ} (answer : Bool) (x : Arrived g p t sets)
+pub reads : {g : Graph} {p : List ℕ} {t : Trees} {sets : List NodeSet} (answer : Bool) (x : Arrived g p t sets)
     → ((answer ≡ true) ↔ (settled x.graph ≡ p)) → Shaped g → SolvedForm g p → (answer ≡ true) ↔ Reading g p
 reads answer x e s f =
     let i = leads_iff x.leads s f in
@@ -144,16 +137,8 @@ reads answer x e s f =
 
 -- the start
 
-pub owners_here : {t : Trees} {parents old owners : List ℕ} → Bounded t → Filled t.n parents old owners t.n → t.n ≤ length old → Owners t owners
-owners_here bounded filled long =
-    record { bounded = bounded; long = omega (arith, filled.long); within = filled.within }
-
-pub fits_here : {g : Graph} {t : Trees} {parents old owners : List ℕ} → Shaped g → TreeOf g t.n parents → TreesOf g t → Filled t.n parents old owners t.n → Fits g t owners
-fits_here s tree trees filled =
-    record { shaped = s; trees = trees; owners_are = λ v h. filled.top_is v h ∙ own_is s tree v h }
-
-pub started : {g : Graph} {p : List ℕ} {t : Trees} {owners under sets : List ℕ} → Fits g t owners → Rows (Below g p) under → SolvedForm g p → Reduced g t.n sets
-    → Standing g p t owners under (t.n * t.n + 1) sets
+pub started : {g : Graph} {p : List ℕ} {t : Trees} {under sets : List NodeSet} → Fits g t → Rows (Below g p) under → SolvedForm g p → Reduced g t.n sets
+    → Standing g p t under (t.n * t.n + 1) sets
 started {g} fits under f form =
     record {
       graph = g;

@@ -6,9 +6,9 @@ use mathlib.Core.Bool.{Bool, true, false, not, ◌&&◌, ◌||◌, true≢false}
 use mathlib.Core.Logic.{⊎_elim, ◌↔◌}
 use native.Mathlib.Omega.{arith}
 use lib.Dec.{eqb, ltb}
-use lib.ListN.{length, get_or, take, length-take}
-use lib.Seq.{get_or-take, ext_get_or}
-use borrow.Author.Tests.{eq-eqb, ne_eqb, eqb-true, lt-ltb, le-ltb, ltb-true, ltb-false}
+use lib.ListN.{length, take, length-take}
+use lib.Seq.{get_or-take}
+use borrow.Author.Tests.{eq-eqb, eqb-true, lt-ltb, ltb-true, ltb-false}
 use Rattle.base_finite.specs.Below.{any, all}
 use Rattle.base_finite.proofs.Laws.{by_bool, or_cases, or_comm, and_both, and_intro, and_false, not_not, any_more, any_at, any_found, any_false, all_at, all_every, all_fails, all_ext, test_ext, not_holding}
 use Rattle.base_nodeset.specs.Set.{mem, OfByte, Intersection, Union}
@@ -20,47 +20,21 @@ use Rattle.theory_forest.specs.Shape.{Shaped}
 use Rattle.theory_forest.proofs.Shape.{well_formed_shaped}
 use Rattle.theory_forest.proofs.Table.{hangs_parts, below_within}
 use Rattle.theory_forest.proofs.Forests.{acyclic_forest, placing_cases, hanging_solved}
-use Rattle.base_tables.specs.Rows.{in_row as in_pair}
-use Rattle.base_tables.specs.Sets.{in_row, Rows}
+use Rattle.base_tables.specs.Rows.{in_row, Rows}
 use Rattle.base_tables.specs.Tables.{Tables}
 use Rattle.base_tables.specs.Trees.{TreesOf}
 use Rattle.base_tables.specs.declared.trees.Trees.{Trees}
 use Rattle.solve_closure.specs.Closing.{Links}
-use Rattle.check_placing.specs.Tests.{fits, placing_in, outside, downward_in, carried, again, single_in}
+use Rattle.check_placing.specs.Tests.{fits, AllFit, placing_in, outside, downward_in, carried, again, single_in}
 
 -- the answer of a test that is asked the other way
 not_true : (b : Bool) → not b ≡ true → b ≡ false
 not_true b e = sym (not_not b) ∙ ap not e
 
--- the first n bytes of two lists
-
-pub takes_agree : (a b : List ℕ) (n : ℕ) → n ≤ length a → n ≤ length b → ((k : ℕ) → k < n → get_or a k 0 ≡ get_or b k 0) → take n a ≡ take n b
-takes_agree a b n ha hb f =
-    let la : length (take n a) ≡ n = omega (arith, length-take n a) in
-    let lb : length (take n b) ≡ n = omega (arith, length-take n b) in
-    ext_get_or 0 (take n a) (take n b) (la ∙ sym lb) (λ k h.
-    let small : k < n = omega arith in
-    get_or-take n a k 0 small ∙ f k small ∙ sym (get_or-take n b k 0 small))
-
-pub takes_same : (a b : List ℕ) (n : ℕ) → take n a ≡ take n b → (k : ℕ) → k < n → get_or a k 0 ≡ get_or b k 0
-takes_same a b n e k h = sym (get_or-take n a k 0 h) ∙ ap (λ (l : List ℕ). get_or l k 0) e ∙ get_or-take n b k 0 h
-
 -- one byte
 
 module _ (t : Trees) (v byte : ℕ) where
-  pub fits_none : byte ≡ none → fits t v byte ≡ true
-  unfolding fits
-  fits_none e = rw (eq-eqb byte none e)
-
-  pub fits_beyond : (byte ≡ none → ⊥) → t.n ≤ byte → fits t v byte ≡ false
-  unfolding fits
-  fits_beyond e h = rw (ne_eqb byte none e, le-ltb byte t.n h)
-
-  pub fits_node : (byte ≡ none → ⊥) → byte < t.n → fits t v byte ≡ (mem t.roots v && mem t.leaves byte)
-  unfolding fits
-  fits_node e h = rw (ne_eqb byte none e, lt-ltb byte t.n h)
-
-  pub fits_within : fits t v byte ≡ true → (byte ≡ none → ⊥) → byte < t.n
+  fits_within : fits t v byte ≡ true → (byte ≡ none → ⊥) → byte < t.n
   unfolding fits
   fits_within fit e =
       ⊎_elim
@@ -79,13 +53,13 @@ module _ (t : Trees) (bytes : List ℕ) where
         node_or_none = λ v h. fits_within t v (at bytes v) (all_at t.n (λ v. fits t v (at bytes v)) is v h);
       }
 
-  pub placing_every : ((v : ℕ) → v < t.n → fits t v (at bytes v) ≡ true) → placing_in t bytes ≡ true
+  -- a test that holds where each byte fits
+  pub placing_tested : (answer : Bool) → (answer ≡ true) ↔ AllFit t bytes → answer ≡ placing_in t bytes
   unfolding placing_in
-  placing_every f = all_every t.n (λ v. fits t v (at bytes v)) f
-
-  pub placing_fails : (v : ℕ) → v < t.n → fits t v (at bytes v) ≡ false → placing_in t bytes ≡ false
-  unfolding placing_in
-  placing_fails v h e = all_fails t.n (λ v. fits t v (at bytes v)) v h e
+  placing_tested answer e =
+      test_ext answer _
+      (λ is. all_every t.n (λ v. fits t v (at bytes v)) (e.0 is))
+      (λ is. e.1 (all_at t.n (λ v. fits t v (at bytes v)) is))
 
 pub placing_is : (g : Graph) (t : Trees) (bytes : List ℕ) → TreesOf g t → t.n ≤ length bytes → placing_in t bytes ≡ placing g (take t.n bytes)
 unfolding placing_in placing fits
@@ -110,41 +84,41 @@ placing_is g t bytes e long =
 
 -- solved forms
 
-pub downward_every : (n : ℕ) (heads_low heads_high rows : List ℕ) → ((l : ℕ) → l < n → any 128 (outside heads_low heads_high rows l) ≡ false) → downward_in n heads_low heads_high rows ≡ true
+pub downward_every : (n : ℕ) (heads rows : List NodeSet) → ((l : ℕ) → l < n → any 128 (outside heads rows l) ≡ false) → downward_in n heads rows ≡ true
 unfolding downward_in
-downward_every n heads_low heads_high rows f = all_every n (λ l. not (any 128 (outside heads_low heads_high rows l))) (λ l h. rw (f l h))
+downward_every n heads rows f = all_every n (λ l. not (any 128 (outside heads rows l))) (λ l h. rw (f l h))
 
-pub downward_fails : (n : ℕ) (heads_low heads_high rows : List ℕ) (l : ℕ) → l < n → any 128 (outside heads_low heads_high rows l) ≡ true → downward_in n heads_low heads_high rows ≡ false
+pub downward_fails : (n : ℕ) (heads rows : List NodeSet) (l : ℕ) → l < n → any 128 (outside heads rows l) ≡ true → downward_in n heads rows ≡ false
 unfolding downward_in
-downward_fails n heads_low heads_high rows l h e = all_fails n (λ l. not (any 128 (outside heads_low heads_high rows l))) l h (rw e)
+downward_fails n heads rows l h e = all_fails n (λ l. not (any 128 (outside heads rows l))) l h (rw e)
 
-module _ (g : Graph) (n : ℕ) (parents heads_low heads_high rows : List ℕ) (edges : ℕ) (t : Tables g n parents heads_low heads_high edges) where
+module _ (g : Graph) (n : ℕ) (parents : List ℕ) (heads rows : List NodeSet) (edges : ℕ) (t : Tables g n parents heads edges) where
   shaped : Shaped g
   shaped = well_formed_shaped t.well_formed
 
   module _ (p : List ℕ) (are : Rows (Below g p) rows) where
-    downward_is : (downward_in n heads_low heads_high rows ≡ true) ↔ ((l r : ℕ) → DominanceEdge g l r → Below g p l r)
+    downward_is : (downward_in n heads rows ≡ true) ↔ ((l r : ℕ) → DominanceEdge g l r → Below g p l r)
     unfolding downward_in
     downward_is = (
       λ e l r d.
           let b = t.holds.dominance_within l r d in
           let few = t.well_formed.few_nodes in
-          let none_out : any 128 (outside heads_low heads_high rows l) ≡ false = not_true (any 128 (outside heads_low heads_high rows l)) (all_at n (λ l. not (any 128 (outside heads_low heads_high rows l))) e l (omega (arith, b.0, t.nodes))) in
-          let in_heads : in_pair heads_low heads_high l r ≡ true = t.holds.heads_are l r ∙ d in
+          let none_out : any 128 (outside heads rows l) ≡ false = not_true (any 128 (outside heads rows l)) (all_at n (λ l. not (any 128 (outside heads rows l))) e l (omega (arith, b.0, t.nodes))) in
+          let in_heads : in_row heads l r ≡ true = t.holds.heads_are l r ∙ d in
           by_bool (in_row rows l r)
           (λ (i : in_row rows l r ≡ true). (are.row_is l r).0 i)
           (λ (i : in_row rows l r ≡ false).
-          let out : outside heads_low heads_high rows l r ≡ true = rw (in_heads, i) refl in
-          absurd (true≢false (sym out ∙ any_false 128 (outside heads_low heads_high rows l) none_out r (omega (arith, b.1))))),
+          let out : outside heads rows l r ≡ true = rw (in_heads, i) refl in
+          absurd (true≢false (sym out ∙ any_false 128 (outside heads rows l) none_out r (omega (arith, b.1))))),
       λ down.
           all_every n _ (λ l h.
-          by_bool (any 128 (outside heads_low heads_high rows l))
-          (λ (i : any 128 (outside heads_low heads_high rows l) ≡ true).
-          let x = any_found 128 (outside heads_low heads_high rows l) i in
-          let b = and_both (in_pair heads_low heads_high l x.0) (not (in_row rows l x.0)) x.2 in
+          by_bool (any 128 (outside heads rows l))
+          (λ (i : any 128 (outside heads rows l) ≡ true).
+          let x = any_found 128 (outside heads rows l) i in
+          let b = and_both (in_row heads l x.0) (not (in_row rows l x.0)) x.2 in
           let under : in_row rows l x.0 ≡ true = (are.row_is l x.0).1 (down l x.0 (sym (t.holds.heads_are l x.0) ∙ b.0)) in
           absurd (true≢false (sym b.1 ∙ ap not under)))
-          (λ (i : any 128 (outside heads_low heads_high rows l) ≡ false). rw i)),
+          (λ (i : any 128 (outside heads rows l) ≡ false). rw i)),
     )
 
     loops_is : (not (any n (λ u. in_row rows u u)) ≡ true) ↔ ((u : ℕ) → Below g p u u → ⊥)
@@ -160,13 +134,13 @@ module _ (g : Graph) (n : ℕ) (parents heads_low heads_high rows : List ℕ) (e
           (λ (i : any n (λ u. in_row rows u u) ≡ false). rw i),
     )
 
-    pub solved_is : placing g p ≡ true → ((not (any n (λ u. in_row rows u u)) && downward_in n heads_low heads_high rows) ≡ true) ↔ SolvedForm g p
+    pub solved_is : placing g p ≡ true → ((not (any n (λ u. in_row rows u u)) && downward_in n heads rows) ≡ true) ↔ SolvedForm g p
     solved_is is = (
       λ e.
-          let b = and_both (not (any n (λ u. in_row rows u u))) (downward_in n heads_low heads_high rows) e in
+          let b = and_both (not (any n (λ u. in_row rows u u))) (downward_in n heads rows) e in
           (hanging_solved g p).0 (record { is_placing = is; is_forest = acyclic_forest g p shaped (loops_is.0 b.0); downward = downward_is.0 b.1 }),
       λ f.
-          and_intro (not (any n (λ u. in_row rows u u))) (downward_in n heads_low heads_high rows)
+          and_intro (not (any n (λ u. in_row rows u u))) (downward_in n heads rows)
           (loops_is.1 f.is_forest.no_loop)
           (downward_is.1 ((hanging_solved g p).1 f).downward),
     )

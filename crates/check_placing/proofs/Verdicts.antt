@@ -6,10 +6,11 @@ use mathlib.Core.Bool.{Bool, true, false, not, ◌&&◌, true≢false}
 use mathlib.Core.Logic.{◌↔◌}
 use lib.ListN.{length, take}
 use Rattle.base_finite.specs.Below.{any}
+use Rattle.base_nodeset.specs.declared.NodeSet.{NodeSet}
 use Rattle.graph.specs.Graph.{Graph}
 use Rattle.graph.specs.Placing.{placing, Below, SolvedForm, Reading}
 use Rattle.theory_forest.specs.Shape.{Shaped}
-use Rattle.base_tables.specs.Sets.{in_row, Rows}
+use Rattle.base_tables.specs.Rows.{in_row, Rows}
 use Rattle.base_tables.specs.Tables.{Tables}
 use Rattle.base_tables.specs.Trees.{TreesOf}
 use Rattle.base_tables.specs.declared.trees.Trees.{Trees}
@@ -38,19 +39,19 @@ module _ (t : Trees) {n : ℕ} (same : t.n ≡ n) (bytes : List ℕ) (long : n �
     pub not_placing : placing_in t bytes ≡ false → SolvedForm g (take n bytes) → ⊥
     not_placing is f = true≢false (sym f.is_placing ∙ sym placed_is ∙ is)
 
-pub reads_here : (t : Trees) {n : ℕ} → t.n ≡ n → (bytes : List ℕ) {g : Graph} {parents heads_low heads_high under : List ℕ} {edges : ℕ} (reads : Bool)
-    → (Tables g t.n parents heads_low heads_high edges → Rows (Below g (take t.n bytes)) under → SolvedForm g (take t.n bytes) → (reads ≡ true) ↔ Reading g (take t.n bytes))
-    → Tables g n parents heads_low heads_high edges → Rows (Below g (take n bytes)) under → SolvedForm g (take n bytes) → (reads ≡ true) ↔ Reading g (take n bytes)
-reads_here t same bytes {g} {parents} {heads_low} {heads_high} {under} {edges} reads =
-    subst (λ (k : ℕ). Tables g k parents heads_low heads_high edges → Rows (Below g (take k bytes)) under → SolvedForm g (take k bytes) → (reads ≡ true) ↔ Reading g (take k bytes)) same
+pub reads_here : (t : Trees) {n : ℕ} → t.n ≡ n → (bytes : List ℕ) {g : Graph} {parents : List ℕ} {heads under : List NodeSet} {edges : ℕ} (reads : Bool)
+    → (Tables g t.n parents heads edges → Rows (Below g (take t.n bytes)) under → SolvedForm g (take t.n bytes) → (reads ≡ true) ↔ Reading g (take t.n bytes))
+    → Tables g n parents heads edges → Rows (Below g (take n bytes)) under → SolvedForm g (take n bytes) → (reads ≡ true) ↔ Reading g (take n bytes)
+reads_here t same bytes {g} {parents} {heads} {under} {edges} reads =
+    subst (λ (k : ℕ). Tables g k parents heads edges → Rows (Below g (take k bytes)) under → SolvedForm g (take k bytes) → (reads ≡ true) ↔ Reading g (take k bytes)) same
 
-module _ {g : Graph} {n : ℕ} {parents heads_low heads_high rows p : List ℕ} {edges : ℕ} (t : Tables g n parents heads_low heads_high edges) (are : Rows (Below g p) rows)
+module _ {g : Graph} {n : ℕ} {parents : List ℕ} {heads rows : List NodeSet} {p : List ℕ} {edges : ℕ} (t : Tables g n parents heads edges) (are : Rows (Below g p) rows)
     (is : placing g p ≡ true) where
-  pub is_solved : (not (any n (λ u. in_row rows u u)) && downward_in n heads_low heads_high rows) ≡ true → SolvedForm g p
-  is_solved = (solved_is g n parents heads_low heads_high rows edges t p are is).0
+  pub is_solved : (not (any n (λ u. in_row rows u u)) && downward_in n heads rows) ≡ true → SolvedForm g p
+  is_solved = (solved_is g n parents heads rows edges t p are is).0
 
-  pub not_solved : (not (any n (λ u. in_row rows u u)) && downward_in n heads_low heads_high rows) ≡ false → SolvedForm g p → ⊥
-  not_solved fails f = true≢false (sym ((solved_is g n parents heads_low heads_high rows edges t p are is).1 f) ∙ fails)
+  pub not_solved : (not (any n (λ u. in_row rows u u)) && downward_in n heads rows) ≡ false → SolvedForm g p → ⊥
+  not_solved fails f = true≢false (sym ((solved_is g n parents heads rows edges t p are is).1 f) ∙ fails)
 
 pub noes_answered : (g : Graph) (p : List ℕ) (r : Answers) → Noes r → (SolvedForm g p → ⊥) → Answered g p r
 noes_answered g p r noes not_one =

@@ -1,19 +1,16 @@
 -- Where the guided descent stands: at a graph that the choices so far lead to, with its reduced form.
-use Rattle.std.specs.Prelude.{ℕ, ◌+◌, ◌*◌, ◌<◌, ◌≡◌, List, ◌⊎◌, length, get_or}
+use Rattle.std.specs.Prelude.{ℕ, ◌+◌, ◌*◌, ◌<◌, ◌≡◌, List, ◌⊎◌}
+use Rattle.base_nodeset.specs.declared.NodeSet.{NodeSet}
 use Rattle.graph.specs.Graph.{Graph, own}
 use Rattle.graph.specs.Placing.{Below, SolvedForm}
 use Rattle.theory_list.specs.Choosing.{pairs}
 use Rattle.theory_list.specs.Guided.{Leads}
 use Rattle.theory_list.specs.Settled.{settled}
-use Rattle.base_tables.specs.Sets.{Rows}
+use Rattle.base_tables.specs.Rows.{Rows}
 use Rattle.base_tables.specs.Trees.{TreesOf, Fits}
 use Rattle.base_tables.specs.declared.trees.Trees.{Trees}
 use Rattle.solve_reduce.specs.Reduced.{LooplessForm}
 use Rattle.check_placing.specs.declared.guide.Edge.{Edge}
-
--- the table gives the node v a node
-abbrev pub Owned : List ℕ → ℕ → Type 0
-Owned owners v = (v < 128) × (v < length owners) × (get_or owners v 0 < 128)
 
 -- both ends are nodes
 abbrev pub Within : ℕ → Edge → Type 0
@@ -28,17 +25,17 @@ HalfOf g p a b e = Into g p a b e.leaf e.root ⊎ Into g p b a e.leaf e.root
 
 -- From g the choices lead to a graph with this reduced form. With the turns left its descent relation can outgrow all
 -- pairs, so they are enough.
-pub record Standing (g : Graph) (p : List ℕ) (t : Trees) (owners under : List ℕ) (turns : ℕ) (sets : List ℕ) : Type 0 where
+pub record Standing (g : Graph) (p : List ℕ) (t : Trees) (under : List NodeSet) (turns : ℕ) (sets : List NodeSet) : Type 0 where
   pub graph : Graph
   pub given : LooplessForm graph t.n sets
-  pub fits : Fits graph t owners
+  pub fits : Fits graph t
   pub solved : SolvedForm graph p
   pub under_is : Rows (Below graph p) under
   pub leads : (q : List ℕ) → Leads graph p q → Leads g p q
   pub enough : t.n * t.n < turns + pairs graph
 
 -- No choice is left.
-pub record Arrived (g : Graph) (p : List ℕ) (t : Trees) (sets : List ℕ) : Type 0 where
+pub record Arrived (g : Graph) (p : List ℕ) (t : Trees) (sets : List NodeSet) : Type 0 where
   pub graph : Graph
   pub given : LooplessForm graph t.n sets
   pub trees : TreesOf graph t

@@ -13,14 +13,14 @@ pub const DOMINANCE: u8 = 3;
 pub const LAST: usize = 65535;
 
 // The count: exact up to 65,535, and otherwise "more".
-#[derive(Clone, Copy)]
+#[derive(Clone, Copy, PartialEq, Eq, Debug)]
 pub enum Count {
     Exactly(usize),
     More,
 }
 
 // One record of the fragment table.
-#[derive(Clone, Copy)]
+#[derive(Clone, Copy, PartialEq, Eq, Debug)]
 pub struct Fragment {
     pub root: u8,
     pub lowest_leaf: u8,

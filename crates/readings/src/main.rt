@@ -6,9 +6,10 @@ ghost use Rattle.std.specs.Prelude.{IfOk, ◌≤◌, length};
 ghost use Rattle.graph.specs.Graph as graph;
 ghost use Rattle.show_input.specs.Input.{Ready};
 
+use base_nodeset::NodeSet;
 use show_input::{INPUT, Input, REFUSAL, read_input};
 use show_list::{first_page, next_page};
-use solve_levels::STACK;
+use solve_levels::{STACK, UNTAKEN};
 use solve_numbered::TRAIL;
 use std::io;
 use std::io::Read;
@@ -38,17 +39,15 @@ fn read_full(input: &mut impl Read, place: &mut [u8]) -> io::Result<usize>
 fn list(rt: &impl Print, input: Input) -> io::Result<()>
     requires { (g : graph.Graph) × Ready g input }
 {
-    let mut states = [0u64; STACK];
-    let mut trail = [0u8; TRAIL];
+    let mut states = [NodeSet::empty(); STACK];
+    let mut trail = [UNTAKEN; TRAIL];
     let mut placings = [0u8; PLACINGS];
     let mut out = [0u8; PAGE];
     let mut page = first_page(input, &mut states, &mut trail, &mut placings, &mut out);
-    let first = page.bytes;
-    rt.write_all(&out[..first])?;
-    while page.more {
-        page = next_page(page, &mut states, &mut trail, &mut placings, &mut out);
-        let next = page.bytes;
-        rt.write_all(&out[..next])?;
+    rt.write_all(&out[..page.bytes])?;
+    while let Some(rest) = page.next {
+        page = next_page(rest, &mut states, &mut trail, &mut placings, &mut out);
+        rt.write_all(&out[..page.bytes])?;
     }
     Ok(())
 }
@@ -57,11 +56,8 @@ fn main(rt: HostRuntime) -> io::Result<()> {
     let mut bytes = [0u8; INPUT];
     let got = read_full(&mut rt.stdin(), &mut bytes)?;
     let mut line = [0u8; REFUSAL];
-    let input = read_input(&bytes, got, &mut line);
-    if input.refused {
-        let end = input.bytes;
-        rt.write_all(&line[..end])
-    } else {
-        list(&rt, input)
+    match read_input(&bytes, got, &mut line) {
+        Ok(input) => list(&rt, input),
+        Err(end) => rt.write_all(&line[..end]),
     }
 }

@@ -1,124 +1,140 @@
 -- The laws of a command's steps, and what `commands` and `gathered` make of a command.
-use Prim.Native.Nat.{ℕ, zero, suc, ◌≤◌, ◌<◌}
+use Prim.Native.Nat.{ℕ, zero, suc, ◌+◌, ◌≤◌, ◌<◌}
 use mathlib.Core.Path.{◌≡◌, refl, sym, ◌∙◌}
 use mathlib.Core.List.{List, [], ◌∷◌}
-use mathlib.Core.Bool.{Bool, true, false, ◌&&◌, ◌||◌}
+use mathlib.Core.Bool.{Bool, true, false, cond, ◌&&◌, ◌||◌}
 use native.Mathlib.Omega.{arith}
 use lib.Dec.{eqb, leb, ltb}
 use lib.ListN.{length, get_or, drop}
-use borrow.Author.Tests.{ltb-true, ltb-false, eqb-true, eq-eqb, ne_eqb}
+use lib.Seq.{drop-drop}
+use borrow.Author.Tests.{ltb-true, ltb-false, eqb-true, ne_eqb}
+use Rattle.std.specs.Prelude.{Result, Ok, Err}
 use Rattle.base_finite.proofs.Laws.{by_bool}
 use Rattle.graph.specs.Graph.{Edge}
 use Rattle.format.specs.Sheet.{Labels, labelling, differing, takes_labels, takes_two, takes_none, commands}
 use Rattle.format.specs.declared.Form.{Form}
 use Rattle.format.specs.declared.Form.TheVariants.{Plain, Labelled}
 use Rattle.format.specs.declared.Refusal.{Refusal}
-use Rattle.format.specs.declared.Refusal.TheVariants.{Missing, Command}
-use Rattle.sheet_commands.specs.Step.{byte_of, placed, stop_of, command_of, operands_of, step_of, width_of}
+use Rattle.format.specs.declared.Refusal.TheVariants.{Missing, Command as CommandRefusal}
+use Rattle.sheet_commands.specs.Step.{byte_of, with_byte, pair_of, code_of, placed, command_of, operands_of, step_of, step_at, width_of}
 use Rattle.sheet_commands.specs.Labels.{gathered, gathered_after}
 use Rattle.sheet_commands.specs.Turn.{outcome_after}
-use Rattle.sheet_commands.specs.declared.command.Byte.{Byte}
-use Rattle.sheet_commands.specs.declared.command.Byte.TheVariants.{Read, Refused as ByteRefused}
-use Rattle.sheet_commands.specs.declared.command.Step.TheVariants.{Nodes, Tree, Dominance, Label, Differ, End}
+use Rattle.sheet_commands.specs.declared.command.Kind.{Kind}
+use Rattle.sheet_commands.specs.declared.command.Kind.TheVariants.{Nodes as NodesKind, Tree as TreeKind, Dominance as DominanceKind, Label as LabelKind, Differ as DifferKind, End as EndKind}
+use Rattle.sheet_commands.specs.declared.command.Command.{Command}
+use Rattle.sheet_commands.specs.declared.command.Command.TheVariants.{Nodes, Tree, Dominance, Label, Differ, End}
 
 -- a needed byte
 
-pub byte_missing : (s : List ℕ) (at : ℕ) → length s ≤ at → byte_of (drop at s) ≡ ByteRefused Missing
+pub byte_missing : (s : List ℕ) (at : ℕ) → length s ≤ at → byte_of (drop at s) ≡ Err Missing
 unfolding byte_of
 byte_missing [] zero h = refl
 byte_missing [] (suc at) h = refl
 byte_missing (b ∷ s) zero h = absurd (omega arith)
 byte_missing (b ∷ s) (suc at) h = byte_missing s at (omega arith)
 
-pub byte_there : (s : List ℕ) (at : ℕ) → at < length s → byte_of (drop at s) ≡ Read (get_or s at 0)
+pub byte_there : (s : List ℕ) (at : ℕ) → at < length s → byte_of (drop at s) ≡ Ok (get_or s at 0)
 unfolding byte_of
 byte_there [] at h = absurd (omega arith)
 byte_there (b ∷ s) zero h = refl
 byte_there (b ∷ s) (suc at) h = byte_there s at (omega arith)
 
-pub byte_within : (s : List ℕ) (at : ℕ) (w : Byte) (b : ℕ) → w ≡ byte_of (drop at s) → w ≡ Read b → at < length s
-byte_within s at w b e f =
+-- the command with this byte and these operands
+abbrev pub two_of : ℕ → Result (ℕ × ℕ) Refusal → Result Command Refusal
+two_of b (Ok e) = Ok (cond (eqb b 2) (Tree e.0 e.1) (cond (eqb b 3) (Dominance e.0 e.1) (Label e.0 e.1)))
+two_of b (Err why) = Err why
+
+pub byte_within : (s : List ℕ) (at b : ℕ) → Ok b ≡ byte_of (drop at s) → at < length s
+byte_within s at b e =
     by_bool (ltb at (length s))
     (λ (t : ltb at (length s) ≡ true). ltb-true at (length s) t)
     (λ (t : ltb at (length s) ≡ false).
-    let read : Read b ≡ ByteRefused Missing = sym f ∙ e ∙ byte_missing s at (ltb-false at (length s) t) in
+    let read : Ok b ≡ Err Missing = e ∙ byte_missing s at (ltb-false at (length s) t) in
     absurd (let z : ◌≡◌ {A = ℕ} 0 1 = cc in omega arith))
+
+-- after the first operand
+pub pair_after : (s : List ℕ) (at x : ℕ) (second : Result ℕ Refusal) → Ok x ≡ byte_of (drop at s) → second ≡ byte_of (drop (at + 1) s)
+    → with_byte second (λ y. Ok (x, y)) ≡ pair_of (drop at s)
+pair_after s at x second e f = rw (← e, drop-drop, f)
 
 -- the command byte
 
-pub placed_labels : (form : Form) (b : ℕ) → eqb b 2 ≡ false → eqb b 3 ≡ false → (takes_labels form && (eqb b 5 || eqb b 6)) ≡ (takes_two form b || takes_none form b)
-unfolding takes_two takes_none
-placed_labels Plain b two three = rw (two, three)
-placed_labels Labelled b two three = rw (two, three)
+module _ (form : Form) (first : Bool) (bs : List ℕ) where
+  unknown_astray : (b left : ℕ) → ((k : Kind) → code_of k ≡ b → ⊥) → placed form first b left ≡ false
+  unfolding placed takes_two takes_none
+  unknown_astray b left none =
+      rw (
+        ne_eqb b 0 (λ e. none EndKind (sym e)),
+        ne_eqb b 1 (λ e. none NodesKind (sym e)),
+        ne_eqb b 2 (λ e. none TreeKind (sym e)),
+        ne_eqb b 3 (λ e. none DominanceKind (sym e)),
+        ne_eqb b 5 (λ e. none LabelKind (sym e)),
+        ne_eqb b 6 (λ e. none DifferKind (sym e)),
+      ) (none_of form first)
+    where
+      none_of : (form : Form) (first : Bool) → cond first false (takes_labels form && false || takes_labels form && false) ≡ false
+      none_of Plain true = refl
+      none_of Plain false = refl
+      none_of Labelled true = refl
+      none_of Labelled false = refl
 
-module _ (form : Form) (first : Bool) (bs : List ℕ) (w : Byte) (e : w ≡ byte_of bs) where
-  pub command_missing : (why : Refusal) → w ≡ ByteRefused why → w ≡ command_of form first bs
+  pub command_missing : (why : Refusal) → Err why ≡ byte_of bs → command_of form first bs ≡ Err why
   unfolding command_of
-  command_missing why f = rw (← e, f)
+  command_missing why e = rw (← e)
 
-  pub command_placed : (b : ℕ) → w ≡ Read b → placed form first b (length bs) ≡ true → Read b ≡ command_of form first bs
+  pub command_unknown : (b : ℕ) → Ok b ≡ byte_of bs → ((k : Kind) → code_of k ≡ b → ⊥) → command_of form first bs ≡ Err CommandRefusal
   unfolding command_of
-  command_placed b f p = rw (← e, f, p)
+  command_unknown b e none = rw (← e, unknown_astray b (length bs) none)
 
-  pub command_astray : (b : ℕ) → w ≡ Read b → placed form first b (length bs) ≡ false → ByteRefused Command ≡ command_of form first bs
-  unfolding command_of
-  command_astray b f p = rw (← e, f, p)
+  module _ (k : Kind) (e : Ok (code_of k) ≡ byte_of bs) where
+    pub command_placed : true ≡ placed form first (code_of k) (length bs) → command_of form first bs ≡ Ok (code_of k)
+    unfolding command_of
+    command_placed p = rw (← e, ← p)
 
-pub command_within : (form : Form) (first : Bool) (s : List ℕ) (at : ℕ) (w : Byte) (b : ℕ) → w ≡ command_of form first (drop at s) → w ≡ Read b → at < length s
+    pub command_astray : false ≡ placed form first (code_of k) (length bs) → command_of form first bs ≡ Err CommandRefusal
+    unfolding command_of
+    command_astray p = rw (← e, ← p)
+
+pub command_within : (form : Form) (first : Bool) (s : List ℕ) (at b : ℕ) → command_of form first (drop at s) ≡ Ok b → at < length s
 unfolding command_of
-command_within form first s at w b e f =
+command_within form first s at b e =
     by_bool (ltb at (length s))
     (λ (t : ltb at (length s) ≡ true). ltb-true at (length s) t)
     (λ (t : ltb at (length s) ≡ false).
-    let read : Read b ≡ ByteRefused Missing = sym f ∙ e ∙ rw (byte_missing s at (ltb-false at (length s) t)) in
+    let read : Ok b ≡ Err Missing = sym e ∙ rw (byte_missing s at (ltb-false at (length s) t)) in
     absurd (let z : ◌≡◌ {A = ℕ} 0 1 = cc in omega arith))
-
--- the operands
-
-module _ (command : ℕ) (bs : List ℕ) (w : Byte) (e : w ≡ byte_of bs) where
-  pub operand_missing : (why : Refusal) → w ≡ ByteRefused why → stop_of w ≡ operands_of command bs
-  unfolding operands_of
-  operand_missing why f = rw (← e, f)
-
-  pub operand_nodes : (x : ℕ) → w ≡ Read x → command ≡ 1 → Nodes x ≡ operands_of command bs
-  unfolding operands_of
-  operand_nodes x f one = rw (← e, f, one)
-
-  module _ (x : ℕ) (f : w ≡ Read x) (more : command ≡ 1 → ⊥) (v : Byte) (g : v ≡ byte_of (drop 1 bs)) where
-    pub second_missing : (why : Refusal) → v ≡ ByteRefused why → stop_of v ≡ operands_of command bs
-    unfolding operands_of
-    second_missing why h = rw (← e, f, ne_eqb command 1 more, ← g, h)
-
-    pub operands_tree : (y : ℕ) → v ≡ Read y → command ≡ 2 → Tree x y ≡ operands_of command bs
-    unfolding operands_of
-    operands_tree y h two = rw (← e, f, ne_eqb command 1 more, ← g, h, eq-eqb command 2 two)
-
-    pub operands_dominance : (y : ℕ) → v ≡ Read y → command ≡ 3 → Dominance x y ≡ operands_of command bs
-    unfolding operands_of
-    operands_dominance y h three = rw (← e, f, three, ← g, h)
-
-    pub operands_label : (y : ℕ) → v ≡ Read y → (command ≡ 2 → ⊥) → (command ≡ 3 → ⊥) → Label x y ≡ operands_of command bs
-    unfolding operands_of
-    operands_label y h two three = rw (← e, f, ne_eqb command 1 more, ← g, h, ne_eqb command 2 two, ne_eqb command 3 three)
 
 -- the command
 
-module _ (form : Form) (first : Bool) (bs : List ℕ) (w : Byte) (e : w ≡ command_of form first bs) where
-  pub step_missing : (why : Refusal) → w ≡ ByteRefused why → stop_of w ≡ step_of form first bs
+module _ (form : Form) (s : List ℕ) (at : ℕ) where
+  pub step_refused : (why : Refusal) → command_of form (eqb at 0) (drop at s) ≡ Err why → Err why ≡ step_at form s at
   unfolding step_of
-  step_missing why f = rw (← e, f)
+  step_refused why e = rw e
 
-  pub step_end : (b : ℕ) → w ≡ Read b → b ≡ 0 → End ≡ step_of form first bs
+  pub step_end : command_of form (eqb at 0) (drop at s) ≡ Ok 0 → Ok End ≡ step_at form s at
   unfolding step_of
-  step_end b f z = rw (← e, f, eq-eqb b 0 z)
+  step_end e = rw e
 
-  pub step_differ : (b : ℕ) → w ≡ Read b → b ≡ 6 → Differ ≡ step_of form first bs
+  pub step_differ : command_of form (eqb at 0) (drop at s) ≡ Ok 6 → Ok Differ ≡ step_at form s at
   unfolding step_of
-  step_differ b f six = rw (← e, f, six)
+  step_differ e = rw e
 
-  pub step_operands : (b : ℕ) → w ≡ Read b → (b ≡ 0 → ⊥) → (b ≡ 6 → ⊥) → operands_of b (drop 1 bs) ≡ step_of form first bs
-  unfolding step_of
-  step_operands b f z six = rw (← e, f, ne_eqb b 0 z, ne_eqb b 6 six)
+  pub step_nodes : (x : Result ℕ Refusal) → command_of form (eqb at 0) (drop at s) ≡ Ok 1 → x ≡ byte_of (drop (at + 1) s)
+      → with_byte x (λ n. Ok (Nodes n)) ≡ step_at form s at
+  unfolding step_of operands_of
+  step_nodes x e f = rw (e, drop-drop, f)
+
+  pub step_two : (b : ℕ) (x : Result (ℕ × ℕ) Refusal) → command_of form (eqb at 0) (drop at s) ≡ Ok b → (b ≡ 0 → ⊥) → (b ≡ 1 → ⊥) → (b ≡ 6 → ⊥)
+      → x ≡ pair_of (drop (at + 1) s) → two_of b x ≡ step_at form s at
+  unfolding step_of operands_of
+  step_two b x e end nodes differ f =
+      rw (e, ne_eqb b 0 end, ne_eqb b 6 differ, f, ← drop-drop 1 at s) (both (byte_of (drop 1 (drop at s))) (byte_of (drop 1 (drop 1 (drop at s)))))
+    where
+      both : (x y : Result ℕ Refusal) → two_of b (with_byte x (λ v. with_byte y (λ w. Ok (v, w))))
+          ≡ with_byte x (λ v. cond (eqb b 1) (Ok (Nodes v)) (with_byte y (λ w. Ok (cond (eqb b 2) (Tree v w) (cond (eqb b 3) (Dominance v w) (Label v w))))))
+      both (Err why) y = refl
+      both (Ok v) (Err why) = rw (ne_eqb b 1 nodes)
+      both (Ok v) (Ok w) = rw (ne_eqb b 1 nodes)
 
 -- by the command byte
 by_command : (P : ℕ → Type 0) (b : ℕ) → P 0 → P 2 → P 3 → P 5 → P 6

@@ -1,11 +1,12 @@
 -- A command taken by a reader, which is moved on by the command's width.
-use Rattle.sheet_commands.specs.Step.{passed_at}
-use Rattle.sheet_commands.specs.declared.command.Passed.{Passed}
+use Rattle.std.specs.Prelude.{◌+◌, Result}
+use Rattle.format.specs.declared.Refusal.{Refusal}
+use Rattle.sheet_commands.specs.Step.{step_at, width_of}
+use Rattle.sheet_commands.specs.declared.command.Command.{Command}
 use Rattle.sheet_commands.specs.declared.reader.Reader.{Reader}
-use Rattle.sheet_commands.specs.declared.reader.Taken.{Taken}
 
-abbrev pub moved_on : Reader → Passed → Taken
-moved_on r p = record { step = p.step; reader = record { sheet = r.sheet; at = p.at; form = r.form } }
+abbrev pub taken_by : Reader → Result Command Refusal
+taken_by r = step_at r.form r.sheet.now r.at
 
-abbrev pub taken_by : Reader → Taken
-taken_by r = moved_on r (passed_at r.form r.sheet.now r.at)
+abbrev pub moved_on : Reader → Result Command Refusal → Reader
+moved_on r step = record { sheet = r.sheet; at = r.at + width_of step; form = r.form }

@@ -1,9 +1,9 @@
 // The lent bytes of a sheet, an offset into them, and the sheet's form.
 ghost use Rattle.std.specs.Prelude.{◌≡◌};
-ghost use Rattle.sheet_commands.specs.Reader.{taken_by};
+ghost use Rattle.sheet_commands.specs.Reader.{taken_by, moved_on};
 
-use crate::command::{Step, pass};
-use format::Form;
+use crate::command::{Command, command_at};
+use format::{Form, Refusal};
 
 #[derive(Clone, Copy)]
 pub struct Reader<'a> {
@@ -12,25 +12,14 @@ pub struct Reader<'a> {
     pub form: Form,
 }
 
-// A command, and the reader moved on.
-#[derive(Clone, Copy)]
-pub struct Taken<'a> {
-    pub step: Step,
-    pub reader: Reader<'a>,
-}
-
 impl<'a> Reader<'a> {
-    pub fn next(self) -> Taken<'a>
-        ensures { result ≡ taken_by self.entry }
+    // The command at the offset, which is passed. One that is refused is not.
+    pub fn next(&mut self) -> Result<Command, Refusal>
+        ensures taken { result ≡ taken_by self.old }
+        ensures moved { self.new ≡ moved_on self.old result }
     {
-        let passed = pass(self.form, self.sheet, self.at);
-        Taken {
-            step: passed.step,
-            reader: Reader {
-                sheet: self.sheet,
-                at: passed.at,
-                form: self.form,
-            },
-        }
+        let command = command_at(self.form, self.sheet, self.at)?;
+        self.at += command.width();
+        Ok(command)
     }
 }

@@ -1,29 +1,21 @@
 // All commands of a sheet, one after the other.
-ghost use Rattle.sheet_commands.specs.Run.{Ran, Blank};
+ghost use Rattle.sheet_commands.specs.Run.{Ran};
 
+use crate::command::Command;
 use crate::reader::Reader;
-use crate::turn::{Run, begin, turn};
-use format::Form;
+use crate::turn::{begin, turn};
+use base_tables::Graph;
+use format::{Form, Refusal};
 
-pub fn commands(
-    form: Form,
-    sheet: &[u8],
-    parent: &mut [u8],
-    low: &mut [u64],
-    high: &mut [u64],
-) -> Run
-    requires { Blank parent.old low.old high.old }
-    ensures { Ran form sheet.now result parent.new low.new high.new }
+pub fn commands(form: Form, sheet: &[u8]) -> Result<Graph, Refusal>
+    ensures { Ran form sheet.now result }
 {
-    let first = Reader { sheet, at: 0, form }.next();
-    let mut run = begin(first.step);
-    let mut reader = first.reader;
+    let mut reader = Reader { sheet, at: 0, form };
+    let mut graph = begin(reader.next()?)?;
     loop {
-        let Run::Going(n, edges) = run else {
-            return run;
-        };
-        let taken = reader.next();
-        run = turn(taken.step, n, edges, parent, low, high);
-        reader = taken.reader;
+        match reader.next()? {
+            Command::End => return Ok(graph),
+            command => turn(&mut graph, command)?,
+        }
     }
 }

@@ -1,5 +1,5 @@
 -- The tests after the last command: each loop's step, and that the tests on the tables are those on the edges held.
-use Prim.Native.Nat.{ℕ, zero, suc, ◌+◌, ◌-◌, ◌≤◌, ◌<◌}
+use Prim.Native.Nat.{ℕ, zero, suc, ◌+◌, ◌≤◌, ◌<◌}
 use mathlib.Core.Path.{◌≡◌, refl, sym, ap, ap₂, ◌∙◌}
 use mathlib.Core.List.{List}
 use mathlib.Core.Bool.{Bool, true, false, not, ◌&&◌, ◌||◌}
@@ -8,7 +8,7 @@ use lib.ListN.{get_or}
 use borrow.Author.Tests.{eq-eqb, ne_eqb, lt-ltb, le-ltb}
 use Rattle.base_finite.specs.Below.{any, count}
 use Rattle.base_finite.proofs.Laws.{by_bool, any_ext, any_cut, any_found, and_true, and_both}
-use Rattle.base_nodeset.specs.Set.{member, mem, Difference, Union}
+use Rattle.base_nodeset.specs.Set.{mem, Difference, Union}
 use Rattle.base_nodeset.specs.declared.NodeSet.{NodeSet}
 use Rattle.theory_edges.specs.Edges.{Within, graph_with}
 use Rattle.theory_edges.proofs.Edges.{parent_among}
@@ -18,6 +18,7 @@ use Rattle.graph.specs.Graph.{Edge, Graph, among, entered, left, parent, root, l
 use Rattle.format.specs.Sheet.{Labels, takes_labels, refused, accepted, says, overgrown, astray, mislabelled, overlapping, holed, fitted, whole}
 use Rattle.format.specs.declared.Form.TheVariants.{Plain, Labelled}
 use Rattle.format.specs.declared.Refusal.TheVariants.{Tree, Ends, Overgrown, Label, Overlap, Hole}
+use Rattle.base_tables.specs.Rows.{in_row}
 use Rattle.base_tables.specs.Tables.{Holds}
 use Rattle.base_tables.specs.Trees.{InnerSet, RootSet}
 use Rattle.sheet_grow.specs.Grow.{BareSet}
@@ -31,12 +32,12 @@ unfolding rises_in
 rises_stops zero parents v h e = absurd (omega arith)
 rises_stops (suc k) parents v h e = rw (eq-eqb (get_or parents v 0) none e)
 
-pub rises_goes_on : (k : ℕ) (parents : List ℕ) (v : ℕ) → 0 < k → (get_or parents v 0 ≡ none → ⊥) → rises_in (k - 1) parents (get_or parents v 0) ≡ rises_in k parents v
+pub rises_goes_on : (k j : ℕ) (parents : List ℕ) (v : ℕ) → k ≡ j + 1 → (get_or parents v 0 ≡ none → ⊥) → rises_in j parents (get_or parents v 0) ≡ rises_in k parents v
 unfolding rises_in
-rises_goes_on zero parents v h e = absurd (omega arith)
-rises_goes_on (suc k) parents v h e =
-    let less : suc k - 1 ≡ k = omega arith in
-    rw (less, ne_eqb (get_or parents v 0) none e)
+rises_goes_on zero j parents v h e = absurd (omega arith)
+rises_goes_on (suc k) j parents v h e =
+    let same : j ≡ k = omega arith in
+    rw (same, ne_eqb (get_or parents v 0) none e)
 
 pub rises_top : (k : ℕ) (parents : List ℕ) (v : ℕ) → k ≤ 0 → rises_in k parents v ≡ true
 unfolding rises_in
@@ -50,9 +51,6 @@ stray_inner row l inner roots e = any_ext 128 _ _ (λ k h. rw (e, and_true))
 
 pub stray_leaf : (row : NodeSet) (l : ℕ) (inner roots : NodeSet) → mem inner l ≡ false → strays (mem row) l inner roots ≡ any 128 (λ r. mem row r && not (mem roots r))
 stray_leaf row l inner roots e = any_ext 128 _ _ (λ k h. rw e)
-
-pub stray_row : (row : NodeSet) (q : ℕ → Bool) (l : ℕ) (inner roots : NodeSet) → ((v : ℕ) → mem row v ≡ q v) → strays (mem row) l inner roots ≡ strays q l inner roots
-stray_row row q l inner roots is = any_ext 128 _ _ (λ k h. rw (is k))
 
 -- the tests on tables that hold a graph's edges
 
@@ -78,7 +76,7 @@ pub record Sets (n : ℕ) (parents : List ℕ) : Type 0 where
   pub is_roots : RootSet n parents roots
   pub is_alone : Difference roots inner alone
 
-module _ {n : ℕ} {t d : List Edge} {parents low high : List ℕ} {edges : ℕ} (holds : Holds n t d parents low high edges) where
+module _ {n : ℕ} {t d : List Edge} {parents : List ℕ} {heads : List NodeSet} {edges : ℕ} (holds : Holds n t d parents heads edges) where
   abbrev g : Graph
   g = graph_with n t d
 
@@ -110,19 +108,19 @@ module _ {n : ℕ} {t d : List Edge} {parents low high : List ℕ} {edges : ℕ}
     -- with their leaves, bare nodes are inner nodes
     leaf_is : (more : NodeSet) → Union s.inner s.alone more → (l : ℕ) → l < n → leaf (grown g) l ≡ not (mem more l)
     leaf_is more m l h =
-        let same : mem more l ≡ (left t l || bare g l) = m l ∙ ap₂ ◌||◌ (inner_is l h) (bare_is l (omega (arith, h, few)) ∙ bare_held g few parents low high edges holds l h) in
+        let same : mem more l ≡ (left t l || bare g l) = m l ∙ ap₂ ◌||◌ (inner_is l h) (bare_is l (omega (arith, h, few)) ∙ bare_held g few parents heads edges holds l h) in
         leaf_grown g l h ∙ ap not (sym same)
 
-    astray_held : (more : NodeSet) → Union s.inner s.alone more → astray_in n low high more s.roots ≡ astray (grown g)
+    astray_held : (more : NodeSet) → Union s.inner s.alone more → astray_in n heads more s.roots ≡ astray (grown g)
     unfolding astray_in astray
     astray_held more m =
         let test : ℕ → ℕ → Bool = λ l r. among d l r && not (leaf (grown g) l && root (grown g) r) in
         let edge : (l r : ℕ) → test l r ≡ true → (l < n) × (r < n) = λ l r e. holds.dominance_within l r (and_both (among d l r) (not (leaf (grown g) l && root (grown g) r)) e).0 in
-        let row : ℕ → ℕ → Bool = λ l r. member (get_or low l 0) (get_or high l 0) r && not (not (mem more l) && mem s.roots r) in
+        let row : ℕ → ℕ → Bool = λ l r. in_row heads l r && not (not (mem more l) && mem s.roots r) in
         let all : ℕ = (grown g).nodes in
         any_ext n _ _ (λ l hl.
         any_cut 128 n (row l) few (λ r h e.
-        let held : member (get_or low l 0) (get_or high l 0) r ≡ true = (and_both (member (get_or low l 0) (get_or high l 0) r) (not (not (mem more l) && mem s.roots r)) e).0 in
+        let held : in_row heads l r ≡ true = (and_both (in_row heads l r) (not (not (mem more l) && mem s.roots r)) e).0 in
         (holds.dominance_within l r (sym (holds.heads_are l r) ∙ held)).1)
         ∙ any_ext n (row l) (test l) (λ r hr. rw (holds.heads_are l r, leaf_is more m l hl, root_grown g r hr, root_is r hr))
         ∙ sym (any_cut all n (test l) (omega arith) (λ r h e. (edge l r e).1)))
@@ -131,7 +129,7 @@ module _ {n : ℕ} {t d : List Edge} {parents low high : List ℕ} {edges : ℕ}
     -- so many are bare
     module _ (k : ℕ) (counted : k ≡ count 128 (mem s.alone)) where
       number : n + k ≡ (grown g).nodes
-      number = ap (λ (m : ℕ). n + m) (counted ∙ set_counted n parents s.alone bare_is) ∙ bare_counted g few parents low high edges holds
+      number = ap (λ (m : ℕ). n + m) (counted ∙ set_counted n parents s.alone bare_is) ∙ bare_counted g few parents heads edges holds
 
       -- 13
       pub whole_overgrown : 128 < n + k → (m : Labels) → whole g m ≡ refused Overgrown
@@ -144,11 +142,11 @@ module _ {n : ℕ} {t d : List Edge} {parents low high : List ℕ} {edges : ℕ}
         not_overgrown = le-ltb 128 (grown g).nodes (omega (arith, fits, number))
 
         -- 6
-        pub whole_ends : astray_in n low high more s.roots ≡ true → (l : Labels) → whole g l ≡ refused Ends
+        pub whole_ends : astray_in n heads more s.roots ≡ true → (l : Labels) → whole g l ≡ refused Ends
         unfolding whole
         whole_ends e l = let found : astray (grown g) ≡ true = sym (astray_held more m) ∙ e in rw (acyclic, not_overgrown, found)
 
-        pub whole_fitted : astray_in n low high more s.roots ≡ false → (l : Labels) → whole g l ≡ fitted g l
+        pub whole_fitted : astray_in n heads more s.roots ≡ false → (l : Labels) → whole g l ≡ fitted g l
         unfolding whole
         whole_fitted e l = let found : astray (grown g) ≡ false = sym (astray_held more m) ∙ e in rw (acyclic, not_overgrown, found)
 

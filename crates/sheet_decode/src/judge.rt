@@ -1,7 +1,8 @@
 // What is tested after the last command: 4, 13, 6, and of a labelled sheet 14, 15, 16.
-ghost use Rattle.std.specs.Prelude.{◌≡◌, List, ℕ, ◌≤◌, ◌<◌, length};
+ghost use Rattle.std.specs.Prelude.{◌≡◌, List, ℕ, ◌≤◌, ◌<◌};
 ghost use Rattle.base_nodeset.specs.Set.{mem};
 ghost use Rattle.graph.specs.Graph.{Edge};
+ghost use Rattle.base_tables.specs.Rows.{Long};
 ghost use Rattle.base_tables.specs.Tables.{Holds};
 ghost use Rattle.base_tables.specs.Trees.{Parents};
 ghost use Rattle.format.specs.Sheet as spec;
@@ -11,7 +12,7 @@ ghost use Rattle.sheet_labels.specs.Keep.{Keeps};
 ghost use Rattle.sheet_decode.specs.Judge.{rises_in, cyclic_in, strays, astray_in, Judged, Fitted};
 
 use base_nodeset::NodeSet;
-use base_tables::rows::set_at;
+use base_tables::Graph;
 use base_tables::trees::{inner_nodes, root_nodes};
 use format::{Form, Refusal};
 use graph::NONE;
@@ -19,26 +20,18 @@ use sheet_labels::fit::{holed, mislabelled, overlapping};
 use sheet_labels::gather::labels_of;
 use sheet_labels::table::Labels;
 
-#[derive(Clone, Copy)]
-pub enum Verdict {
-    Accepted,
-    Refused(Refusal),
-}
-
 // n edges lead up from v, one above the other.
 fn rises(parent: &[u8], n: usize, v: usize) -> bool
     requires { Parents n parent.now × (v < n) }
     ensures { result ≡ rises_in n parent.now v }
 {
     let mut at = v;
-    let mut left = n;
-    while 0 < left {
+    for _step in 0..n {
         let above = parent[at];
         if above == NONE {
             return false;
         }
         at = above as usize;
-        left -= 1;
     }
     true
 }
@@ -62,77 +55,73 @@ fn stray(row: NodeSet, l: usize, inner: NodeSet, roots: NodeSet) -> bool
     ensures { result ≡ strays (mem row) l inner roots }
 {
     if inner.has(l) {
-        return !row.is_empty();
+        !row.is_empty()
+    } else {
+        !row.difference(roots).is_empty()
     }
-    !row.difference(roots).is_empty()
 }
 
 // 6: a dominance edge doesn't go from a leaf to a root.
-fn astray(low: &[u64], high: &[u64], n: usize, inner: NodeSet, roots: NodeSet) -> bool
-    requires { (n ≤ 128) × (length low.now ≡ 128) × (length high.now ≡ 128) }
-    ensures { result ≡ astray_in n low.now high.now inner roots }
+fn astray(heads: &[NodeSet], n: usize, inner: NodeSet, roots: NodeSet) -> bool
+    requires { (n ≤ 128) × Long heads.now }
+    ensures { result ≡ astray_in n heads.now inner roots }
 {
     for l in 0..n {
-        if stray(set_at(low, high, l), l, inner, roots) {
+        if stray(heads[l], l, inner, roots) {
             return true;
         }
     }
     false
 }
 
-pub fn judge(n: usize, parent: &[u8], low: &[u64], high: &[u64]) -> Verdict
-    requires { Parents n parent.now × (length low.now ≡ 128) × (length high.now ≡ 128) }
-    ensures { (t d : List Edge) (edges : ℕ) → Holds n t d parent.now low.now high.now edges → Judged n t d result }
+pub fn judge(graph: &Graph) -> Result<(), Refusal>
+    requires { Parents graph.now.n graph.now.parent }
+    ensures { (t d : List Edge) (edges : ℕ) → Holds graph.now.n t d graph.now.parent graph.now.heads edges
+        → Judged graph.now.n t d result }
 {
-    if cyclic(parent, n) {
-        return Verdict::Refused(Refusal::Tree);
+    let n = graph.n;
+    if cyclic(&graph.parent, n) {
+        return Err(Refusal::Tree);
     }
-    let inner = inner_nodes(parent, n);
-    let roots = root_nodes(parent, n);
+    let inner = inner_nodes(&graph.parent, n);
+    let roots = root_nodes(&graph.parent, n);
     let bare = roots.difference(inner);
     if 128 < n + bare.count() {
-        return Verdict::Refused(Refusal::Overgrown);
+        return Err(Refusal::Overgrown);
     }
     // A bare node is no leaf: it will have one.
-    if astray(low, high, n, inner.union(bare), roots) {
-        return Verdict::Refused(Refusal::Ends);
+    if astray(&graph.heads, n, inner.union(bare), roots) {
+        return Err(Refusal::Ends);
     }
-    Verdict::Accepted
+    Ok(())
 }
 
 // 14, 15, 16, in this order.
-fn fit(labels: Labels, n: usize, parent: &[u8], low: &[u64], high: &[u64]) -> Verdict
-    requires { Parents n parent.now × (length low.now ≡ 128) × (length high.now ≡ 128) }
-    ensures { (m : spec.Labels) (t d : List Edge) (edges : ℕ) → m.form ≡ Labelled → Keeps m labels
-        → Holds n t d parent.now low.now high.now edges → Fitted n t d m result }
+fn fit(labels: &Labels, graph: &Graph) -> Result<(), Refusal>
+    requires { Parents graph.now.n graph.now.parent }
+    ensures { (m : spec.Labels) (t d : List Edge) (edges : ℕ) → m.form ≡ Labelled → Keeps m labels.now
+        → Holds graph.now.n t d graph.now.parent graph.now.heads edges → Fitted graph.now.n t d m result }
 {
-    if mislabelled(labels, parent, n) {
-        return Verdict::Refused(Refusal::Label);
+    if mislabelled(labels, &graph.parent, graph.n) {
+        return Err(Refusal::Label);
     }
-    if overlapping(labels, n) {
-        return Verdict::Refused(Refusal::Overlap);
+    if overlapping(labels, graph.n) {
+        return Err(Refusal::Overlap);
     }
-    if holed(labels, parent, low, high, n) {
-        return Verdict::Refused(Refusal::Hole);
+    if holed(labels, graph) {
+        return Err(Refusal::Hole);
     }
-    Verdict::Accepted
+    Ok(())
 }
 
 // What the sheet says of labels, held against its edges.
-pub fn judge_labels(
-    form: Form,
-    sheet: &[u8],
-    n: usize,
-    parent: &[u8],
-    low: &[u64],
-    high: &[u64],
-) -> Verdict
-    requires { Parents n parent.now × (length low.now ≡ 128) × (length high.now ≡ 128) }
-    ensures { (t d : List Edge) (edges : ℕ) → Holds n t d parent.now low.now high.now edges
-        → Fitted n t d (labels_in form sheet.now) result }
+pub fn judge_labels(form: Form, sheet: &[u8], graph: &Graph) -> Result<(), Refusal>
+    requires { Parents graph.now.n graph.now.parent }
+    ensures { (t d : List Edge) (edges : ℕ) → Holds graph.now.n t d graph.now.parent graph.now.heads edges
+        → Fitted graph.now.n t d (labels_in form sheet.now) result }
 {
     match form {
-        Form::Plain => Verdict::Accepted,
-        Form::Labelled => fit(labels_of(sheet), n, parent, low, high),
+        Form::Plain => Ok(()),
+        Form::Labelled => fit(&labels_of(sheet), graph),
     }
 }

@@ -11,13 +11,15 @@ use lib.Seq.{sets, sets-eq}
 use borrow.Author.Tests.{eq-eqb, ne_eqb}
 use Rattle.base_finite.specs.Below.{count, spread}
 use Rattle.base_finite.proofs.Laws.{by_bool, count_ext, count_le, spread_ext, not_holding}
-use Rattle.base_nodeset.specs.Set.{member}
+use Rattle.base_nodeset.specs.declared.NodeSet.{NodeSet}
 use Rattle.graph.specs.Graph.{Edge, among, entered, parent, none}
 use Rattle.format.specs.Sheet.{tidy, tidy_tree, tidy_dominance}
 use Rattle.theory_edges.proofs.Edges.{parent_among, parent_unentered, parent_only, among_unentered}
 use Rattle.theory_edges.proofs.Growing.{few_written}
 use Rattle.theory_format.proofs.Tidy.{tidy_length}
+use Rattle.base_tables.specs.Rows.{nothing, in_row}
 use Rattle.base_tables.specs.Tables.{Holds}
+use Rattle.base_tables.specs.declared.Graph.{Graph}
 use Rattle.base_tables.specs.Trees.{Parents}
 use Rattle.base_tables.proofs.Parents.{parent_tells, parents_held}
 use Rattle.theory_edges.specs.Edges.{graph_with}
@@ -37,7 +39,7 @@ spread_nothing : {A : Type 0} (f : ℕ → List A) (n : ℕ) → ((j : ℕ) → 
 unfolding spread
 spread_nothing f n none = spread_gap f 0 n (omega arith) none
 
-module _ (n : ℕ) (t d : List Edge) (parents low high : List ℕ) (edges : ℕ) (few : n ≤ 128) (holds : Holds n t d parents low high edges) where
+module _ (n : ℕ) (t d : List Edge) (parents : List ℕ) (heads : List NodeSet) (edges : ℕ) (few : n ≤ 128) (holds : Holds n t d parents heads edges) where
   has_parent : (v : ℕ) → v < n → not (eqb (get_or parents v 0) none) ≡ entered t v
   has_parent v h = rw (holds.parent_is v (omega arith)) (sym (parent_tells n t v few holds.tree_within))
 
@@ -65,78 +67,75 @@ module _ (n : ℕ) (t d : List Edge) (parents low high : List ℕ) (edges : ℕ)
   unfolding tree_part tidy_tree
   tree_part_held = spread_ext n _ _ (λ c h. tree_bytes_held c h)
 
-  row_held : (l : ℕ) → row_bytes l (record { low = get_or low l 0; high = get_or high l 0 }) ≡ spread n (λ r. cond (among d l r) (3 ∷ l ∷ r ∷ []) [])
+  row_held : (l : ℕ) → row_bytes l (get_or heads l nothing) ≡ spread n (λ r. cond (among d l r) (3 ∷ l ∷ r ∷ []) [])
   row_held l =
-      spread_gap (row_command l (record { low = get_or low l 0; high = get_or high l 0 })) n 128 few (λ r a b.
-      let gone : member (get_or low l 0) (get_or high l 0) r ≡ false =
+      spread_gap (row_command l (get_or heads l nothing)) n 128 few (λ r a b.
+      let gone : in_row heads l r ≡ false =
       holds.heads_are l r ∙ not_holding (among d l r) (λ m. let w = holds.dominance_within l r m in omega (arith, w.1)) in
       rw gone)
       ∙ spread_ext n _ _ (λ r h. rw (holds.heads_are l r))
 
-  pub dominance_part_held : dominance_part n low high ≡ tidy_dominance (graph_with n t d)
+  pub dominance_part_held : dominance_part n heads ≡ tidy_dominance (graph_with n t d)
   unfolding dominance_part tidy_dominance
   dominance_part_held = spread_ext n _ _ (λ l h. row_held l)
 
-module _ (n : ℕ) (parents low high : List ℕ) (edges : ℕ) (h : TidyTables n parents low high edges) where
-  few : n ≤ 128
+module _ (v : Graph) (h : TidyTables v) where
+  few : v.n ≤ 128
   few = rw h.nodes (few_written h.graph h.well_written)
 
-  tables : Holds n h.graph.tree h.graph.dominance parents low high edges
-  tables = subst⁻¹ (λ (m : ℕ). Holds m h.graph.tree h.graph.dominance parents low high edges) h.nodes h.holds
+  tables : Holds v.n h.graph.tree h.graph.dominance v.parent v.heads v.edges
+  tables = subst⁻¹ (λ (m : ℕ). Holds m h.graph.tree h.graph.dominance v.parent v.heads v.edges) h.nodes h.holds
 
-  same : graph_with n h.graph.tree h.graph.dominance ≡ h.graph
+  same : graph_with v.n h.graph.tree h.graph.dominance ≡ h.graph
   same = λ i. record { nodes = h.nodes i; tree = h.graph.tree; dominance = h.graph.dominance }
 
-  pub held_parents : Parents n parents
-  held_parents = parents_held n h.graph.tree h.graph.dominance parents low high edges few tables
+  pub held_parents : Parents v.n v.parent
+  held_parents = parents_held v.n h.graph.tree h.graph.dominance v.parent v.heads v.edges few tables
 
-  pub held_low : length low ≡ 128
-  held_low = h.holds.low_long
+  pub held_heads : length v.heads ≡ 128
+  held_heads = h.holds.heads_long
 
-  pub held_high : length high ≡ 128
-  held_high = h.holds.high_long
-
-  pub held_few : n ≤ 128
+  pub held_few : v.n ≤ 128
   held_few = few
 
-  pub held_edges : edges ≤ 255
+  pub held_edges : v.edges ≤ 255
   held_edges = rw h.holds.edges_are h.well_written.few_edges
 
-  pub held_trees : trees_in n parents ≤ n
-  held_trees = rw (trees_held n h.graph.tree h.graph.dominance parents low high edges few tables) (count_le n (entered h.graph.tree))
+  pub held_trees : trees_in v.n v.parent ≤ v.n
+  held_trees = rw (trees_held v.n h.graph.tree h.graph.dominance v.parent v.heads v.edges few tables) (count_le v.n (entered h.graph.tree))
 
-  pub held_length : 3 + 3 * trees_in n parents + 3 * edges ≡ length (tidy h.graph)
+  pub held_length : 3 + 3 * trees_in v.n v.parent + 3 * v.edges ≡ length (tidy h.graph)
   held_length =
-      let trees : trees_in n parents ≡ count h.graph.nodes (entered h.graph.tree) =
-      trees_held n h.graph.tree h.graph.dominance parents low high edges few tables ∙ ap (λ (m : ℕ). count m (entered h.graph.tree)) h.nodes in
+      let trees : trees_in v.n v.parent ≡ count h.graph.nodes (entered h.graph.tree) =
+      trees_held v.n h.graph.tree h.graph.dominance v.parent v.heads v.edges few tables ∙ ap (λ (m : ℕ). count m (entered h.graph.tree)) h.nodes in
       rw (trees, h.holds.edges_are) (sym (tidy_length h.graph h.well_written))
 
-  pub held_bytes : tidy h.graph ≡ 1 ∷ n ∷ tree_part n parents ++ dominance_part n low high ++ 0 ∷ []
+  pub held_bytes : tidy h.graph ≡ 1 ∷ v.n ∷ tree_part v.n v.parent ++ dominance_part v.n v.heads ++ 0 ∷ []
   unfolding tidy
   held_bytes =
-      let t = tree_part_held n h.graph.tree h.graph.dominance parents low high edges few tables ∙ ap tidy_tree same in
-      let d = dominance_part_held n h.graph.tree h.graph.dominance parents low high edges few tables ∙ ap tidy_dominance same in
+      let t = tree_part_held v.n h.graph.tree h.graph.dominance v.parent v.heads v.edges few tables ∙ ap tidy_tree same in
+      let d = dominance_part_held v.n h.graph.tree h.graph.dominance v.parent v.heads v.edges few tables ∙ ap tidy_dominance same in
       let e = h.nodes in
       cc
 
-  pub held_parts : length (tidy h.graph) ≡ 3 + length (tree_part n parents) + length (dominance_part n low high)
+  pub held_parts : length (tidy h.graph) ≡ 3 + length (tree_part v.n v.parent) + length (dominance_part v.n v.heads)
   held_parts = rw held_bytes (simp length-append (omega arith))
 
   -- what the parts written one after the other come to
   module _ (old mid new : List ℕ) (after end : ℕ)
-      (tree : Written (set (set old 0 1) 1 n) 2 (tree_part n parents) mid after)
-      (dominance : Written mid after (dominance_part n low high) new end)
+      (tree : Written (set (set old 0 1) 1 v.n) 2 (tree_part v.n v.parent) mid after)
+      (dominance : Written mid after (dominance_part v.n v.heads) new end)
       (room : length (tidy h.graph) ≤ length old) where
-    start : Written old 0 (1 ∷ n ∷ []) (set (set old 0 1) 1 n) 2
+    start : Written old 0 (1 ∷ v.n ∷ []) (set (set old 0 1) 1 v.n) 2
     start = record { stored = refl; after = refl }
 
     pub all_written : set new end 0 ≡ tidy h.graph ++ drop (length (tidy h.graph)) old
     all_written =
         let last : Written new end (0 ∷ []) (set new end 0) (end + 1) = record { stored = refl; after = refl } in
-        let to_tree_lem = written_more old 0 (1 ∷ n ∷ []) (set (set old 0 1) 1 n) 2 (tree_part n parents) mid after start tree in
-        let to_dominance_lem = written_more old 0 _ mid after (dominance_part n low high) new end to_tree_lem dominance in
+        let to_tree_lem = written_more old 0 (1 ∷ v.n ∷ []) (set (set old 0 1) 1 v.n) 2 (tree_part v.n v.parent) mid after start tree in
+        let to_dominance_lem = written_more old 0 _ mid after (dominance_part v.n v.heads) new end to_tree_lem dominance in
         let to_end = written_more old 0 _ new end (0 ∷ []) (set new end 0) (end + 1) to_dominance_lem last in
-        let bytes : 1 ∷ n ∷ ((tree_part n parents ++ dominance_part n low high) ++ 0 ∷ []) ≡ tidy h.graph =
+        let bytes : 1 ∷ v.n ∷ ((tree_part v.n v.parent ++ dominance_part v.n v.heads) ++ 0 ∷ []) ≡ tidy h.graph =
         sym held_bytes in
         to_end.stored
         ∙ ap (λ (bs : List ℕ). sets old 0 bs) bytes

@@ -1,14 +1,15 @@
 -- What tidying answers and leaves in the lent bytes.
-use Rattle.std.specs.Prelude.{ℕ, ◌+◌, ◌≡◌, List, [], ◌∷◌, ◌++◌, cond, not, eqb, ltb, length, get_or, drop}
+use Rattle.std.specs.Prelude.{ℕ, ◌≡◌, List, [], ◌∷◌, ◌++◌, cond, not, eqb, ltb, length, get_or, drop, Result, Ok, Err}
 use Rattle.base_finite.specs.Below.{count, spread}
 use Rattle.base_nodeset.specs.Set.{mem}
 use Rattle.base_nodeset.specs.declared.NodeSet.{NodeSet}
 use Rattle.graph.specs.Graph as spec
 use Rattle.format.specs.Sheet.{Outcome, refused, accepted, tidy}
 use Rattle.format.specs.declared.Refusal.TheVariants.{SmallBuffer}
+use Rattle.format.specs.declared.Refusal.{Refusal}
+use Rattle.base_tables.specs.Rows.{nothing}
 use Rattle.base_tables.specs.Tables.{Holds}
-use Rattle.sheet_encode.specs.declared.Tidied.{Tidied}
-use Rattle.sheet_encode.specs.declared.Tidied.TheVariants.{Length, Refused}
+use Rattle.base_tables.specs.declared.Graph.{Graph}
 
 -- the command of c's tree edge, where c has a parent
 abbrev pub tree_bytes : ℕ → ℕ → List ℕ
@@ -27,31 +28,28 @@ abbrev pub row_bytes : ℕ → NodeSet → List ℕ
 row_bytes l row = spread 128 (row_command l row)
 
 -- the commands of all dominance edges, by ascending leaf and then root
-unfoldable pub dominance_part : ℕ → List ℕ → List ℕ → List ℕ
-dominance_part n low high = spread n (λ l. row_bytes l (record { low = get_or low l 0; high = get_or high l 0 }))
+unfoldable pub dominance_part : ℕ → List NodeSet → List ℕ
+dominance_part n heads = spread n (λ l. row_bytes l (get_or heads l nothing))
 
 -- how many nodes have a parent
-abbrev pub more_trees : ℕ → ℕ → ℕ
-more_trees k p = k + cond (not (eqb p spec.none)) 1 0
-
 unfoldable pub trees_in : ℕ → List ℕ → ℕ
 trees_in n parents = count n (λ c. not (eqb (get_or parents c 0) spec.none))
 
--- the tables of what a well-formed sheet writes
-pub record TidyTables (n : ℕ) (parents low high : List ℕ) (edges : ℕ) : Type 0 where
+-- the value of what a well-formed sheet writes
+pub record TidyTables (v : Graph) : Type 0 where
   pub graph : spec.Graph
   pub well_written : spec.WellWritten graph
-  pub nodes : n ≡ graph.nodes
-  pub holds : Holds graph.nodes graph.tree graph.dominance parents low high edges
+  pub nodes : v.n ≡ graph.nodes
+  pub holds : Holds graph.nodes graph.tree graph.dominance v.parent v.heads v.edges
 
 -- "tidying and drawing the length they hand back. Bytes past a result stay unwritten"; 10 where the tidy length doesn't fit
-abbrev pub TidiesTo : spec.Graph → Tidied → List ℕ → List ℕ → Type 0
+abbrev pub TidiesTo : spec.Graph → Result ℕ Refusal → List ℕ → List ℕ → Type 0
 TidiesTo g r old new =
-    (r ≡ cond (ltb (length old) (length (tidy g))) (Refused SmallBuffer) (Length (length (tidy g))))
+    (r ≡ cond (ltb (length old) (length (tidy g))) (Err SmallBuffer) (Ok (length (tidy g))))
     × (new ≡ cond (ltb (length old) (length (tidy g))) old (tidy g ++ drop (length (tidy g)) old))
 
 -- The answer, and the lent bytes afterwards, for a sheet with the outcome o: 10 comes after the sheet's own refusals; "All
 -- other refusals write nothing."
-abbrev pub Tidies : Outcome → Tidied → List ℕ → List ℕ → Type 0
-Tidies (refused why) r old new = (r ≡ Refused why) × (new ≡ old)
+abbrev pub Tidies : Outcome → Result ℕ Refusal → List ℕ → List ℕ → Type 0
+Tidies (refused why) r old new = (r ≡ Err why) × (new ≡ old)
 Tidies (accepted s) r old new = TidiesTo s.written r old new

@@ -1,27 +1,19 @@
 // Tidying: the sheet that writes the same, with its commands in the tidy order.
 #![tactic(auto)]
 
-ghost use Rattle.std.specs.Prelude.{◌≡◌, ◌+◌, ◌≤◌, ◌<◌, [], ◌∷◌, length};
+ghost use Rattle.std.specs.Prelude.{◌≡◌, ◌+◌, ◌≤◌, [], ◌∷◌, length};
 ghost use Rattle.std.proofs.lemmas.List.Edits.{sets};
-ghost use Rattle.base_finite.specs.Below.{count};
+ghost use Rattle.base_tables.specs.Rows.{Long};
 ghost use Rattle.base_tables.specs.Trees.{Parents};
 ghost use Rattle.format.specs.Sheet.{outcome_of};
 ghost use Rattle.base_finite.specs.Stores.{Written};
-ghost use Rattle.sheet_encode.specs.Tidy.{tree_bytes, trees_in, row_bytes, tree_part, dominance_part, more_trees, TidyTables, TidiesTo, Tidies};
+ghost use Rattle.sheet_encode.specs.Tidy.{tree_bytes, trees_in, row_bytes, tree_part, dominance_part, TidyTables, TidiesTo, Tidies};
 
-use base_nodeset::{NodeSet, Popped};
-use base_tables::rows::set_at;
+use base_nodeset::NodeSet;
+use base_tables::Graph;
 use format::{Form, Refusal};
 use graph::NONE;
-use sheet_decode::judge::Verdict;
 use sheet_decode::read::read_written;
-
-#[derive(Clone, Copy)]
-pub enum Tidied {
-    // How many bytes were filled.
-    Length(usize),
-    Refused(Refusal),
-}
 
 fn put(out: &mut [u8], at: usize, a: u8, b: u8, c: u8)
     requires { at + 3 ≤ length out.old }
@@ -62,81 +54,53 @@ fn write_row(row: NodeSet, l: u8, out: &mut [u8], start: usize) -> usize
 {
     let mut left = row;
     let mut at = start;
-    loop {
-        let Popped::Member(r, rest) = left.pop() else {
-            return at;
-        };
+    while let Some(r) = left.pop_first() {
         put(out, at, 3, l, r as u8);
         at += 3;
-        left = rest;
-    }
-}
-
-fn write_dominance(low: &[u64], high: &[u64], n: usize, out: &mut [u8], start: usize) -> usize
-    requires { (n ≤ 128) × (length low.now ≡ 128) × (length high.now ≡ 128) × (start + length (dominance_part n low.now high.now) ≤ length out.old) }
-    ensures { Written out.old start (dominance_part n low.now high.now) out.new result }
-{
-    let mut at = start;
-    for l in 0..n {
-        at = write_row(set_at(low, high, l), l as u8, out, at);
     }
     at
 }
 
-fn more(count: usize, p: u8) -> usize
-    requires { count < 128 }
-    ensures { result ≡ more_trees count p }
+fn write_dominance(heads: &[NodeSet], n: usize, out: &mut [u8], start: usize) -> usize
+    requires { (n ≤ 128) × Long heads.now × (start + length (dominance_part n heads.now) ≤ length out.old) }
+    ensures { Written out.old start (dominance_part n heads.now) out.new result }
 {
-    if p == NONE { count } else { count + 1 }
+    let mut at = start;
+    for l in 0..n {
+        at = write_row(heads[l], l as u8, out, at);
+    }
+    at
 }
 
 fn tree_edges(parent: &[u8], n: usize) -> usize
     requires { Parents n parent.now }
     ensures { result ≡ trees_in n parent.now }
 {
-    let mut count = 0;
-    for c in 0..n {
-        count = more(count, parent[c]);
-    }
-    count
+    parent[..n].iter().filter(|above| **above != NONE).count()
 }
 
-// The tidy sheet of the graph in these tables.
-pub fn write(
-    n: usize,
-    parent: &[u8],
-    low: &[u64],
-    high: &[u64],
-    edges: usize,
-    out: &mut [u8],
-) -> Tidied
-    requires { TidyTables n parent.now low.now high.now edges }
-    ensures { (h : TidyTables n parent.now low.now high.now edges) → TidiesTo h.graph result out.old out.new }
+// The tidy sheet of the graph.
+pub fn write(graph: &Graph, out: &mut [u8]) -> Result<usize, Refusal>
+    requires { TidyTables graph.now }
+    ensures { (h : TidyTables graph.now) → TidiesTo h.graph result out.old out.new }
 {
-    let needed = 3 + 3 * tree_edges(parent, n) + 3 * edges;
+    let n = graph.n;
+    let needed = 3 + 3 * tree_edges(&graph.parent, n) + 3 * graph.edges;
     if out.len() < needed {
-        return Tidied::Refused(Refusal::SmallBuffer);
+        return Err(Refusal::SmallBuffer);
     }
     out[0] = 1;
     out[1] = n as u8;
-    let after_tree = write_tree(parent, n, out, 2);
-    let end = write_dominance(low, high, n, out, after_tree);
+    let after_tree = write_tree(&graph.parent, n, out, 2);
+    let end = write_dominance(&graph.heads, n, out, after_tree);
     out[end] = 0;
-    Tidied::Length(needed)
+    Ok(needed)
 }
 
-// The tidy plain sheet of the same nodes and edges, from the first lent byte on.
-pub fn tidy(form: Form, sheet: &[u8], out: &mut [u8]) -> Tidied
+// The tidy plain sheet of the same nodes and edges, from the first lent byte on; and how many bytes were filled.
+pub fn tidy(form: Form, sheet: &[u8], out: &mut [u8]) -> Result<usize, Refusal>
     ensures { Tidies (outcome_of form sheet.now) result out.old out.new }
 {
-    let answer = read_written(form, sheet);
-    let verdict = answer.verdict;
-    let graph = answer.graph;
-    let parent = graph.parent;
-    let low = graph.low;
-    let high = graph.high;
-    match verdict {
-        Verdict::Refused(why) => Tidied::Refused(why),
-        Verdict::Accepted => write(graph.n, &parent, &low, &high, graph.edges, out),
-    }
+    let graph = read_written(form, sheet)?;
+    write(&graph, out)
 }

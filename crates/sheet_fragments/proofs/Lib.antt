@@ -1,4 +1,3 @@
 pub mod Owned
 pub mod GraphRecords
-pub mod Answers
 pub mod Storing

@@ -35,7 +35,7 @@ module _ (n : ℕ) (parents : List ℕ) (s : NodeSet) (is : BareSet n parents s)
   pub set_written : {old new : List ℕ} {at r : ℕ} → Written old at (select 128 (mem s)) new r → Written old at (select 128 (bare_in n parents)) new r
   set_written {old} {new} {at} {r} w = subst (λ (bs : List ℕ). Written old at bs new r) (select_ext 128 (mem s) (bare_in n parents) is) w
 
-module _ (g : Graph) (few : g.nodes ≤ 128) (parents low high : List ℕ) (edges : ℕ) (holds : Holds g.nodes g.tree g.dominance parents low high edges) where
+module _ (g : Graph) (few : g.nodes ≤ 128) (parents : List ℕ) (heads : List NodeSet) (edges : ℕ) (holds : Holds g.nodes g.tree g.dominance parents heads edges) where
   pub bare_held : (v : ℕ) → v < g.nodes → bare_in g.nodes parents v ≡ bare g v
   unfolding bare_in bare
   bare_held v h =
@@ -71,9 +71,9 @@ module _ (g : Graph) (few : g.nodes ≤ 128) (parents low high : List ℕ) (edge
   unfolding select spread
   select_same k e = rw e (append-nil (select k (bare g)))
 
-  start : Holds (added_leaf g 0) (grown_tree g 0) g.dominance (sets parents g.nodes (select 0 (bare g))) low high edges
+  start : Holds (added_leaf g 0) (grown_tree g 0) g.dominance (sets parents g.nodes (select 0 (bare g))) heads edges
   unfolding select spread grown_tree
-  start = held_more g.nodes g.tree g.dominance parents low high edges holds (added_leaf g 0) (leaf_from g 0)
+  start = held_more g.nodes g.tree g.dominance parents heads edges holds (added_leaf g 0) (leaf_from g 0)
 
   module _ (most : (grown g).nodes ≤ 128) where
     -- the last number is the number of nodes
@@ -82,25 +82,25 @@ module _ (g : Graph) (few : g.nodes ≤ 128) (parents low high : List ℕ) (edge
     all_leaves = refl
 
     -- with the leaves of the nodes below k
-    stored_below : (k : ℕ) → k ≤ g.nodes → Holds (added_leaf g k) (grown_tree g k) g.dominance (sets parents g.nodes (select k (bare g))) low high edges
+    stored_below : (k : ℕ) → k ≤ g.nodes → Holds (added_leaf g k) (grown_tree g k) g.dominance (sets parents g.nodes (select k (bare g))) heads edges
     stored_below zero h = start
     stored_below (suc k) h =
         by_bool (bare g k)
         (λ (e : bare g k ≡ true).
         let now_there : List ℕ = sets parents g.nodes (select k (bare g)) in
-        let so_far : Holds (added_leaf g k) (grown_tree g k) g.dominance now_there low high edges = stored_below k (omega (arith, h)) in
-        let wider : Holds (added_leaf g (suc k)) (grown_tree g k) g.dominance now_there low high edges =
-        held_more (added_leaf g k) (grown_tree g k) g.dominance now_there low high edges so_far (added_leaf g (suc k)) (omega (arith, leaf_next g k e)) in
+        let so_far : Holds (added_leaf g k) (grown_tree g k) g.dominance now_there heads edges = stored_below k (omega (arith, h)) in
+        let wider : Holds (added_leaf g (suc k)) (grown_tree g k) g.dominance now_there heads edges =
+        held_more (added_leaf g k) (grown_tree g k) g.dominance now_there heads edges so_far (added_leaf g (suc k)) (omega (arith, leaf_next g k e)) in
         rw (tree_next g k e, select_next k e)
-        (held_tree (added_leaf g (suc k)) (grown_tree g k) g.dominance now_there low high edges wider (omega (arith, most, all_leaves, leaf_mono g (suc k) g.nodes h)) k (added_leaf g k)
+        (held_tree (added_leaf g (suc k)) (grown_tree g k) g.dominance now_there heads edges wider (omega (arith, most, all_leaves, leaf_mono g (suc k) g.nodes h)) k (added_leaf g k)
         (omega (arith, h, leaf_from g (suc k)))
         (omega (arith, leaf_next g k e))
         (unentered_beyond (added_leaf g k) (grown_tree g k) (added_leaf g k) so_far.tree_within (omega arith))))
         (λ (e : bare g k ≡ false). rw (leaf_same g k e, tree_same g k e, select_same k e) (stored_below k (omega (arith, h))))
 
     pub grown_held : (new : List ℕ) (r : ℕ) → Written parents g.nodes (select 128 (bare_in g.nodes parents)) new r
-        → (r ≡ (grown g).nodes) × Holds (grown g).nodes (grown g).tree g.dominance new low high edges
+        → (r ≡ (grown g).nodes) × Holds (grown g).nodes (grown g).tree g.dominance new heads edges
     grown_held new r w =
         let number : length (select 128 (bare_in g.nodes parents)) ≡ count 128 (bare_in g.nodes parents) = select_length 128 (bare_in g.nodes parents) in
         let same : new ≡ sets parents g.nodes (select g.nodes (bare g)) = w.stored ∙ ap (sets parents g.nodes) bare_selected in
-        (omega (arith, w.after, number, bare_counted), subst (λ (l : List ℕ). Holds (grown g).nodes (grown g).tree g.dominance l low high edges) (sym same) (rw all_leaves at (stored_below g.nodes (omega arith))))
+        (omega (arith, w.after, number, bare_counted), subst (λ (l : List ℕ). Holds (grown g).nodes (grown g).tree g.dominance l heads edges) (sym same) (rw all_leaves at (stored_below g.nodes (omega arith))))

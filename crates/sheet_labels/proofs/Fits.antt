@@ -1,15 +1,18 @@
 -- The tests of labels on tables that hold a sheet's edges and its labels are those of the definitions.
-use Prim.Native.Nat.{ℕ, ◌+◌, ◌≤◌, ◌<◌}
+use Prim.Native.Nat.{ℕ, zero, suc, ◌+◌, ◌≤◌, ◌<◌}
 use mathlib.Core.Path.{◌≡◌, refl, sym, ap, ap₂, ◌∙◌}
 use mathlib.Core.List.{List, [], ◌∷◌}
 use mathlib.Core.Bool.{Bool, true, false, cond, not}
 use native.Mathlib.Omega.{arith}
 use native.Mathlib.Nat.{add-zero}
+use native.Mathlib.Numerals.{add-one}
 use lib.Dec.{eqb, ltb}
-use lib.ListN.{length, get_or, length-append}
-use borrow.Author.Tests.{eqb-true, eq-eqb, ne_eqb, lt-ltb, le-ltb}
+use lib.ListN.{length, get_or, take, length-append}
+use borrow.Author.Tests.{eqb-true, eq-eqb, ne_eqb}
+use Rattle.std.specs.Prelude.{count_by, MatchBool}
+use Rattle.std.proofs.lemmas.List.Sums.{count_by_more_yes, count_by_more_no}
 use Rattle.base_finite.specs.Below.{any, count}
-use Rattle.base_finite.proofs.Laws.{by_bool, test_ext, any_ext, any_at, any_found, count_more, count_ext, count_none, count_one_more}
+use Rattle.base_finite.proofs.Laws.{by_bool, test_ext, any_ext, any_at, any_none, any_found, count_ext, count_none, count_one_more}
 use Rattle.base_nodeset.specs.Set.{mem}
 use Rattle.base_nodeset.specs.declared.NodeSet.{NodeSet}
 use Rattle.graph.specs.Graph.{Edge, left, parent, none, bare, single}
@@ -25,19 +28,21 @@ use Rattle.sheet_labels.specs.Keep.{Keeps}
 use Rattle.sheet_labels.specs.Fit.{children_in, taken_in, unfit_in, hole_in}
 use Rattle.sheet_labels.specs.declared.table.Labels.{Labels}
 
--- one node more
+-- what an iterator says of the numbers below n, or of the first n entries
 
-pub children_none : (parents : List ℕ) (v : ℕ) → children_in 0 parents v ≡ 0
-unfolding children_in count
-children_none parents v = refl
+pub any_decided : (n : ℕ) (p : ℕ → Bool) (r : Bool) → MatchBool r ((k : ℕ) × (k < n) × (true ≡ p k)) ((k : ℕ) → k < n → false ≡ p k) → r ≡ any n p
+any_decided n p true h = sym (any_at n p h.0 h.1 (sym h.2))
+any_decided n p false h = sym (any_none n p (λ k l. sym (h k l)))
 
-pub children_more : (c : ℕ) (parents : List ℕ) (v : ℕ) → children_in (c + 1) parents v ≡ children_in c parents v + cond (eqb (get_or parents c 0) v) 1 0
-unfolding children_in
-children_more c parents v = count_more c (λ c. eqb (get_or parents c 0) v)
-
-pub one_at_most : (b : Bool) → cond b 1 0 ≤ 1
-one_at_most true = omega arith
-one_at_most false = omega arith
+pub counted : (p : ℕ → Bool) (xs : List ℕ) (n : ℕ) → n ≤ length xs → count_by p (take n xs) ≡ count n (λ c. p (get_or xs c 0))
+unfolding count
+counted p xs zero h = refl
+counted p xs (suc n) h =
+    let before : count_by p (take n xs) ≡ count n (λ c. p (get_or xs c 0)) = counted p xs n (omega arith) in
+    rw (← add-one n)
+    (by_bool (p (get_or xs n 0))
+    (λ (e : p (get_or xs n 0) ≡ true). count_by_more_yes p xs n 0 (omega arith) e ∙ ap (λ (k : ℕ). k + 1) before ∙ rw e)
+    (λ (e : p (get_or xs n 0) ≡ false). count_by_more_no p xs n 0 (omega arith) e ∙ before ∙ rw (e, add-zero)))
 
 -- as many nodes have v for their parent as v has children in the list
 parents_counted : (n : ℕ) (t : List Edge) (v : ℕ) → Within n t → single t ≡ true → v < none → count n (λ c. eqb (parent t c) v) ≡ length (spec.children t v)
@@ -60,7 +65,7 @@ parents_counted n (e ∷ t) v w s h =
     (λ k _. by_bool (eqb e.1 k) (λ (q : eqb e.1 k ≡ true). let same : e.1 ≡ k = eqb-true e.1 k q in rw (q, z, ← same) (sym rootless)) (λ (q : eqb e.1 k ≡ false). rw q))
     ∙ before))
 
-module _ {n : ℕ} {t d : List Edge} {parents low high : List ℕ} {edges : ℕ} (few : n ≤ 128) (holds : Holds n t d parents low high edges) where
+module _ {n : ℕ} {t d : List Edge} {parents : List ℕ} {heads : List NodeSet} {edges : ℕ} (few : n ≤ 128) (holds : Holds n t d parents heads edges) where
   children_held : (v : ℕ) → v < n → children_in n parents v ≡ length (spec.children t v)
   unfolding children_in
   children_held v h =
@@ -83,17 +88,17 @@ module _ {n : ℕ} {t d : List Edge} {parents low high : List ℕ} {edges : ℕ}
         rw once (any_ext n (unfit_in r n parents) (spec.misfit (graph_with n t d) m.symbols) (λ v h. ap₂ (λ (a b : ℕ). not (eqb a b)) (children_held v h) (taken_held v h)))
 
     -- 16
-    pub holed_held : (alone : NodeSet) → BareSet n parents alone → any n (hole_in r.labelled alone low high) ≡ spec.holed (graph_with n t d) m.symbols
+    pub holed_held : (alone : NodeSet) → BareSet n parents alone → any n (hole_in r.labelled alone heads) ≡ spec.holed (graph_with n t d) m.symbols
     unfolding spec.holed
     holed_held alone is =
-        any_ext n (hole_in r.labelled alone low high) (λ v. cond (spec.labelled m.symbols v) (left d v) (bare (graph_with n t d) v))
-        (λ v h. rw (keeps.labelled_are v) (ap₂ (λ (a b : Bool). cond (spec.labelled m.symbols v) a b) (heads_held v h) (is v (omega arith) ∙ bare_held (graph_with n t d) few parents low high edges holds v h)))
+        any_ext n (hole_in r.labelled alone heads) (λ v. cond (spec.labelled m.symbols v) (left d v) (bare (graph_with n t d) v))
+        (λ v h. rw (keeps.labelled_are v) (ap₂ (λ (a b : Bool). cond (spec.labelled m.symbols v) a b) (heads_held v h) (is v (omega arith) ∙ bare_held (graph_with n t d) few parents heads edges holds v h)))
       where
-        heads_held : (v : ℕ) → v < n → any 128 (in_row low high v) ≡ left d v
+        heads_held : (v : ℕ) → v < n → any 128 (in_row heads v) ≡ left d v
         heads_held v h =
-            test_ext (any 128 (in_row low high v)) (left d v)
-            (λ e. let f = any_found 128 (in_row low high v) e in left_of_among d v f.0 (sym (holds.heads_are v f.0) ∙ f.2))
-            (λ e. let f = left_found d v e in let b = holds.dominance_within v f.0 f.1 in any_at 128 (in_row low high v) f.0 (omega (arith, b.1)) (holds.heads_are v f.0 ∙ f.1))
+            test_ext (any 128 (in_row heads v)) (left d v)
+            (λ e. let f = any_found 128 (in_row heads v) e in left_of_among d v f.0 (sym (holds.heads_are v f.0) ∙ f.2))
+            (λ e. let f = left_found d v e in let b = holds.dominance_within v f.0 f.1 in any_at 128 (in_row heads v) f.0 (omega (arith, b.1)) (holds.heads_are v f.0 ∙ f.1))
 
 -- 15
 module _ {m : spec.Labels} {r : Labels} (keeps : Keeps m r) (n : ℕ) (t d : List Edge) where
@@ -106,34 +111,3 @@ module _ {m : spec.Labels} {r : Labels} (keeps : Keeps m r) (n : ℕ) (t d : Lis
   overlapping_held e =
       let differ : m.differ ≡ false = sym keeps.differ_is ∙ e in
       rw differ (ap (ltb 1) (count_ext n (mem r.labelled) (spec.labelled m.symbols) (λ v _. keeps.labelled_are v)))
-
--- the ranges of symbols
-
-pub arity_none : (f : ℕ) → f < 64 → 0 ≡ arity f
-unfolding arity
-arity_none f h = rw (lt-ltb f 64 h)
-
-pub arity_one : (f : ℕ) → 64 ≤ f → f < 128 → 1 ≡ arity f
-unfolding arity
-arity_one f a b = rw (le-ltb f 64 a, lt-ltb f 128 b)
-
-pub arity_two : (f : ℕ) → 128 ≤ f → f < 192 → 2 ≡ arity f
-unfolding arity
-arity_two f a b = rw (le-ltb f 64 (omega arith), le-ltb f 128 a, lt-ltb f 192 b)
-
-pub arity_three : (f : ℕ) → 192 ≤ f → 3 ≡ arity f
-unfolding arity
-arity_three f a = rw (le-ltb f 64 (omega arith), le-ltb f 128 (omega arith), le-ltb f 192 a)
-
--- a row as a set
-pub hole_row : (labelled alone heads : NodeSet) (low high : List ℕ) (v : ℕ) → ((r : ℕ) → mem heads r ≡ in_row low high v r)
-    → cond (mem labelled v) (any 128 (mem heads)) (mem alone v) ≡ hole_in labelled alone low high v
-hole_row labelled alone heads low high v is = ap (λ (b : Bool). cond (mem labelled v) b (mem alone v)) (any_ext 128 (mem heads) (in_row low high v) (λ r _. is r))
-
--- the children of one node, counted, and those that it is to have
-module _ (labels : Labels) (n : ℕ) (parents : List ℕ) (v a b : ℕ) (found : a ≡ children_in n parents v) (wanted : b ≡ taken_in labels v) where
-  pub unfit_found : (a ≡ b → ⊥) → unfit_in labels n parents v ≡ true
-  unfit_found apart = rw (← found, ← wanted, ne_eqb a b apart)
-
-  pub unfit_not : a ≡ b → unfit_in labels n parents v ≡ false
-  unfit_not same = rw (← found, ← wanted, eq-eqb a b same)

@@ -43,13 +43,3 @@ module _ (m : spec.Labels) (r : Labels) (keeps : Keeps m r) where
         twice_is = is ∙ rw (keeps.labelled_are p, keeps.twice_is);
         differ_is = keeps.differ_is;
       }
-
-  pub keeps_differing : Keeps (spec.differing m) (record { symbols = r.symbols; labelled = r.labelled; twice = r.twice; differ = true })
-  keeps_differing =
-      record {
-        long = keeps.long;
-        symbol_is = keeps.symbol_is;
-        labelled_are = keeps.labelled_are;
-        twice_is = keeps.twice_is;
-        differ_is = refl;
-      }

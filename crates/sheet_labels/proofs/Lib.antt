@@ -1,3 +1,3 @@
-pub mod Kept
 pub mod Fits
 pub mod Gathers
+pub mod Kept

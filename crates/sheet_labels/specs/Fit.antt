@@ -18,5 +18,5 @@ taken_in labels v = cond (mem labels.labelled v) (arity (get_or labels.symbols v
 abbrev pub unfit_in : Labels → ℕ → List ℕ → ℕ → Bool
 unfit_in labels n parents v = not (eqb (children_in n parents v) (taken_in labels v))
 
-abbrev pub hole_in : NodeSet → NodeSet → List ℕ → List ℕ → ℕ → Bool
-hole_in labelled bare low high v = cond (mem labelled v) (any 128 (in_row low high v)) (mem bare v)
+abbrev pub hole_in : NodeSet → NodeSet → List NodeSet → ℕ → Bool
+hole_in labelled bare heads v = cond (mem labelled v) (any 128 (in_row heads v)) (mem bare v)

@@ -1,7 +1,8 @@
 // Labels that don't fit: 14, 15, 16.
-ghost use Rattle.std.specs.Prelude.{◌≡◌, List, cond, ℕ, ◌+◌, ◌≤◌, ◌<◌, eqb, length};
+ghost use Rattle.std.specs.Prelude.{◌≡◌, List, ℕ, ◌≤◌, ◌<◌, length};
 ghost use Rattle.base_finite.specs.Below.{any, count};
 ghost use Rattle.base_nodeset.specs.Set.{mem};
+ghost use Rattle.base_nodeset.specs.declared.NodeSet.{NodeSet};
 ghost use Rattle.graph.specs.Graph.{Edge};
 ghost use Rattle.graph.specs.Constraint.{arity};
 ghost use Rattle.theory_edges.specs.Edges.{graph_with};
@@ -9,14 +10,16 @@ ghost use Rattle.base_tables.specs.Tables.{Holds};
 ghost use Rattle.base_tables.specs.Trees.{Parents};
 ghost use Rattle.format.specs.Sheet as spec;
 ghost use Rattle.sheet_labels.specs.Keep.{Keeps};
-ghost use Rattle.sheet_labels.specs.Fit.{children_in, taken_in, unfit_in};
+ghost use Rattle.base_tables.specs.Rows.{Long};
+ghost use Rattle.sheet_labels.specs.Fit.{children_in, taken_in, unfit_in, hole_in};
 
 use crate::table::Labels;
 use base_nodeset::NodeSet;
-use base_tables::rows::set_at;
+use base_tables::Graph;
 use sheet_grow::bare_nodes;
 
 // How many children a symbol takes.
+#[tactic(auto, unfolding(graph::specs::Constraint::arity))]
 fn arity(symbol: u8) -> usize
     ensures { result ≡ arity symbol }
 {
@@ -28,72 +31,42 @@ fn arity(symbol: u8) -> usize
     }
 }
 
-// One child more where the parent is v.
-fn more(children: usize, above: u8, v: usize) -> usize
-    requires { children < 128 }
-    ensures { result ≡ children + cond (eqb above v) 1 0 }
-{
-    if above as usize == v {
-        children + 1
-    } else {
-        children
-    }
-}
-
 fn children(parent: &[u8], n: usize, v: usize) -> usize
     requires { (n ≤ 128) × (length parent.now ≡ 128) }
     ensures { result ≡ children_in n parent.now v }
 {
-    let mut found = 0;
-    for c in 0..n {
-        found = more(found, parent[c], v);
-    }
-    found
+    parent[..n]
+        .iter()
+        .filter(|above| **above as usize == v)
+        .count()
 }
 
 // How many children v is to have: an unlabelled node none.
-fn taken(labels: Labels, v: usize) -> usize
+fn taken(labels: &Labels, v: usize) -> usize
     requires { v < 128 }
-    ensures { result ≡ taken_in labels v }
+    ensures { result ≡ taken_in labels.now v }
 {
-    let labelled = labels.labelled;
-    let symbols = labels.symbols;
-    if labelled.has(v) {
-        return arity(symbols[v]);
+    if labels.labelled.has(v) {
+        arity(labels.symbols[v])
+    } else {
+        0
     }
-    0
 }
 
-fn unfit(labels: Labels, parent: &[u8], n: usize) -> bool
+fn unfit(labels: &Labels, parent: &[u8], n: usize) -> bool
     requires { (n ≤ 128) × (length parent.now ≡ 128) }
-    ensures { result ≡ any n (unfit_in labels n parent.now) }
+    ensures { result ≡ any n (unfit_in labels.now n parent.now) }
 {
-    for v in 0..n {
-        if children(parent, n, v) != taken(labels, v) {
-            return true;
-        }
-    }
-    false
+    (0..n).any(|v| children(parent, n, v) != taken(labels, v))
 }
 
 // 14: a node labelled twice, or whose children don't fit its symbol.
-pub fn mislabelled(labels: Labels, parent: &[u8], n: usize) -> bool
+pub fn mislabelled(labels: &Labels, parent: &[u8], n: usize) -> bool
     requires { Parents n parent.now }
-    ensures { (m : spec.Labels) (t d : List Edge) (low high : List ℕ) (edges : ℕ) → Keeps m labels → Holds n t d parent.now low high edges
+    ensures { (m : spec.Labels) (t d : List Edge) (heads : List NodeSet) (edges : ℕ) → Keeps m labels.now → Holds n t d parent.now heads edges
         → result ≡ spec.mislabelled (graph_with n t d) m.symbols }
 {
-    if labels.twice {
-        return true;
-    }
-    unfit(labels, parent, n)
-}
-
-// One labelled node more where v is one.
-fn counted(nodes: usize, labelled: NodeSet, v: usize) -> usize
-    requires { (nodes < 128) × (v < 128) }
-    ensures { result ≡ nodes + cond (mem labelled v) 1 0 }
-{
-    if labelled.has(v) { nodes + 1 } else { nodes }
+    labels.twice || unfit(labels, parent, n)
 }
 
 fn labelled_nodes(labelled: NodeSet, n: usize) -> usize
@@ -102,43 +75,43 @@ fn labelled_nodes(labelled: NodeSet, n: usize) -> usize
 {
     let mut nodes = 0;
     for v in 0..n {
-        nodes = counted(nodes, labelled, v);
+        if labelled.has(v) {
+            nodes += 1;
+        }
     }
     nodes
 }
 
 // 15: two labelled nodes without 0x06.
-pub fn overlapping(labels: Labels, n: usize) -> bool
+pub fn overlapping(labels: &Labels, n: usize) -> bool
     requires { n ≤ 128 }
-    ensures { (m : spec.Labels) (t d : List Edge) → Keeps m labels → result ≡ spec.overlapping (graph_with n t d) m }
+    ensures { (m : spec.Labels) (t d : List Edge) → Keeps m labels.now → result ≡ spec.overlapping (graph_with n t d) m }
 {
-    if labels.differ {
-        return false;
-    }
-    1 < labelled_nodes(labels.labelled, n)
+    !labels.differ && 1 < labelled_nodes(labels.labelled, n)
 }
 
 // A dominance edge from v, which is labelled; or v, which is not, is bare.
-fn hole(labelled: NodeSet, bare: NodeSet, heads: NodeSet, v: usize) -> bool
-    requires { v < 128 }
-    ensures { result ≡ cond (mem labelled v) (any 128 (mem heads)) (mem bare v) }
+fn hole(labelled: NodeSet, bare: NodeSet, heads: &[NodeSet], v: usize) -> bool
+    requires { (v < 128) × Long heads.now }
+    ensures { result ≡ hole_in labelled bare heads.now v }
 {
     if labelled.has(v) {
-        return !heads.is_empty();
+        !heads[v].is_empty()
+    } else {
+        bare.has(v)
     }
-    bare.has(v)
 }
 
 // 16: a dominance edge from a labelled leaf, or an unlabelled node without tree edges.
-pub fn holed(labels: Labels, parent: &[u8], low: &[u64], high: &[u64], n: usize) -> bool
-    requires { Parents n parent.now × (length low.now ≡ 128) × (length high.now ≡ 128) }
-    ensures { (m : spec.Labels) (t d : List Edge) (edges : ℕ) → Keeps m labels → Holds n t d parent.now low.now high.now edges
-        → result ≡ spec.holed (graph_with n t d) m.symbols }
+pub fn holed(labels: &Labels, graph: &Graph) -> bool
+    requires { Parents graph.now.n graph.now.parent }
+    ensures { (m : spec.Labels) (t d : List Edge) (edges : ℕ) → Keeps m labels.now
+        → Holds graph.now.n t d graph.now.parent graph.now.heads edges
+        → result ≡ spec.holed (graph_with graph.now.n t d) m.symbols }
 {
-    let labelled = labels.labelled;
-    let bare = bare_nodes(parent, n);
-    for v in 0..n {
-        if hole(labelled, bare, set_at(low, high, v), v) {
+    let bare = bare_nodes(&graph.parent, graph.n);
+    for v in 0..graph.n {
+        if hole(labels.labelled, bare, &graph.heads, v) {
             return true;
         }
     }

@@ -1,27 +1,18 @@
 // What is said of labels: of each node its symbol (0 where it has none), which nodes are labelled, whether one is labelled twice, and
 // whether all that are labelled differ.
-ghost use Rattle.std.specs.Prelude.{◌≡◌, ◌||◌, ◌<◌};
-ghost use Rattle.base_nodeset.specs.Set.{mem};
+ghost use Rattle.std.specs.Prelude.{◌<◌};
 ghost use Rattle.format.specs.declared.Form.{Form};
 ghost use Rattle.format.specs.Sheet as spec;
 ghost use Rattle.sheet_labels.specs.Keep.{Keeps};
 
 use base_nodeset::NodeSet;
 
-#[derive(Clone, Copy)]
+#[derive(Drop)]
 pub struct Labels {
     pub symbols: [u8; 128],
     pub labelled: NodeSet,
     pub twice: bool,
     pub differ: bool,
-}
-
-// One that is labelled again is labelled twice.
-fn again(labelled: NodeSet, p: usize, twice: bool) -> bool
-    requires { p < 128 }
-    ensures { result ≡ (mem labelled p || twice) }
-{
-    if labelled.has(p) { true } else { twice }
 }
 
 impl Labels {
@@ -36,32 +27,19 @@ impl Labels {
         }
     }
 
-    // The symbol s for p.
-    pub fn with(self, p: usize, s: u8) -> Labels
+    // The symbol s for p. One that is labelled again is labelled twice.
+    pub fn label(&mut self, p: usize, s: u8)
         requires { p < 128 }
-        ensures { (m : spec.Labels) → Keeps m self → Keeps (spec.labelling m p s) result }
+        ensures { (m : spec.Labels) → Keeps m self.old → Keeps (spec.labelling m p s) self.new }
     {
-        let labelled = self.labelled;
-        let mut symbols = self.symbols;
-        symbols[p] = s;
-        Labels {
-            symbols,
-            labelled: labelled.with(p),
-            twice: again(labelled, p, self.twice),
-            differ: self.differ,
-        }
+        self.twice |= self.labelled.has(p);
+        self.labelled = self.labelled.with(p);
+        self.symbols[p] = s;
     }
 
-    pub fn differing(self) -> Labels
-        ensures { (m : spec.Labels) → Keeps m self → Keeps (spec.differing m) result }
+    pub fn differing(&mut self)
+        ensures { (m : spec.Labels) → Keeps m self.old → Keeps (spec.differing m) self.new }
     {
-        let symbols = self.symbols;
-        let labelled = self.labelled;
-        Labels {
-            symbols,
-            labelled,
-            twice: self.twice,
-            differ: true,
-        }
+        self.differ = true;
     }
 }

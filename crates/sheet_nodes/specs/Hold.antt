@@ -4,8 +4,8 @@ use Rattle.base_nodeset.specs.Set.{mem}
 use Rattle.base_nodeset.specs.declared.NodeSet.{NodeSet}
 use Rattle.graph.specs.Graph.{Edge, none}
 use Rattle.format.specs.Sheet as spec
-use Rattle.sheet_commands.specs.declared.command.Step.{Step}
-use Rattle.sheet_commands.specs.declared.command.Step.TheVariants.{Nodes, Tree, Dominance, Label, Differ, End, Refused}
+use Rattle.sheet_commands.specs.declared.command.Command.{Command}
+use Rattle.sheet_commands.specs.declared.command.Command.TheVariants.{Nodes, Tree, Dominance, Label, Differ, End}
 
 -- It holds the tree edges t and the symbols m, of both the latest first. No child is `none`, so that a place which is `none` is free.
 pub record Holding (t m : List Edge) (table : List ℕ) (labelled : NodeSet) : Type 0 where
@@ -15,29 +15,26 @@ pub record Holding (t m : List Edge) (table : List ℕ) (labelled : NodeSet) : T
   pub child_below : (v i : ℕ) → i < length (spec.children t v) → get_or (spec.children t v) i none < 128
 
 -- another command follows, and the table has room for the nodes that this one is about
-abbrev pub goes_on : Step → Bool
+abbrev pub goes_on : Command → Bool
 goes_on (Nodes n) = false
 goes_on (Tree p c) = ltb p 128 && ltb c 128
 goes_on (Dominance l r) = true
 goes_on (Label p s) = ltb p 128
 goes_on Differ = true
 goes_on End = false
-goes_on (Refused why) = false
 
-abbrev pub tree_with : List Edge → Step → List Edge
+abbrev pub tree_with : List Edge → Command → List Edge
 tree_with t (Nodes n) = t
 tree_with t (Tree p c) = (p, c) ∷ t
 tree_with t (Dominance l r) = t
 tree_with t (Label p s) = t
 tree_with t Differ = t
 tree_with t End = t
-tree_with t (Refused why) = t
 
-abbrev pub symbols_with : List Edge → Step → List Edge
+abbrev pub symbols_with : List Edge → Command → List Edge
 symbols_with m (Nodes n) = m
 symbols_with m (Tree p c) = m
 symbols_with m (Dominance l r) = m
 symbols_with m (Label p s) = (p, s) ∷ m
 symbols_with m Differ = m
 symbols_with m End = m
-symbols_with m (Refused why) = m

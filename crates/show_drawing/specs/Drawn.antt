@@ -4,6 +4,7 @@ use Rattle.base_finite.specs.Below.{any, count, spread}
 use Rattle.graph.specs.Graph as spec
 use Rattle.graph.specs.Placing.{SolvedForm}
 use Rattle.format.specs.Text.{decimal}
+use Rattle.base_nodeset.specs.declared.NodeSet.{NodeSet}
 use Rattle.base_tables.specs.Tables.{Tables}
 use Rattle.base_tables.specs.Trees.{top_in, inner_in, root_in}
 use Rattle.base_finite.specs.Stores.{Written, entry_is}
@@ -97,10 +98,9 @@ pub record Counted (n : ℕ) (parents home placing : List ℕ) : Type 0 where
 -- The parents and the placing, in its first n bytes, of a graph and of one of its solved forms.
 pub record Drawable (n : ℕ) (parents placing : List ℕ) : Type 0 where
   pub graph : spec.Graph
-  pub low : List ℕ
-  pub high : List ℕ
+  pub heads : List NodeSet
   pub edges : ℕ
-  pub tables : Tables graph n parents low high edges
+  pub tables : Tables graph n parents heads edges
   pub solved : SolvedForm graph (take n placing)
 
 -- "tidying and drawing the length they hand back. Bytes past a result stay unwritten"

@@ -10,6 +10,7 @@ ghost use Rattle.base_tables.specs.Trees.{Parents, InnerSet};
 ghost use Rattle.show_drawing.specs.Drawn.{home_in, Homes, hung_leaf_in, hung_size_in, fragment_in, size_in, tops_in, joint, Lent, Ready, Moved, Counted, Drawable, Drawn};
 
 use base_nodeset::NodeSet;
+use base_tables::Graph;
 use base_tables::trees::{inner_nodes, own, root_nodes};
 use graph::NONE;
 
@@ -145,12 +146,13 @@ fn tops(parent: &[u8], home: &[u8], placing: &[u8], n: usize, out: &mut [u8]) ->
 }
 
 // Writes the drawing of the placing in the first n bytes; its length. Bytes past it stay unwritten.
-pub fn draw(parent: &[u8], n: usize, placing: &[u8], out: &mut [u8]) -> usize
-    requires { Drawable n parent.now placing.now × (1024 ≤ length out.old) }
-    ensures { (d : Drawable n parent.now placing.now) → Drawn (drawing d.graph (take n placing.now)) result out.old out.new }
+pub fn draw(graph: &Graph, placing: &[u8], out: &mut [u8]) -> usize
+    requires { Drawable graph.now.n graph.now.parent placing.now × (1024 ≤ length out.old) }
+    ensures { (d : Drawable graph.now.n graph.now.parent placing.now) → Drawn (drawing d.graph (take graph.now.n placing.now)) result out.old out.new }
 {
-    let inner = inner_nodes(parent, n);
+    let n = graph.n;
+    let inner = inner_nodes(&graph.parent, n);
     let mut homes = [0u8; 128];
-    fill_homes(parent, n, inner, &mut homes);
-    tops(parent, &homes, placing, n, out).at
+    fill_homes(&graph.parent, n, inner, &mut homes);
+    tops(&graph.parent, &homes, placing, n, out).at
 }

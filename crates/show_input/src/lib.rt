@@ -2,16 +2,14 @@
 #![tactic(auto)]
 
 ghost use Rattle.std.specs.Prelude.{suc, ◌≤◌, length, take};
-ghost use Rattle.format.specs.Sheet.{Content, longest, outcome, accepted};
-ghost use Rattle.base_tables.specs.Tables.{Tables, SheetTables};
-ghost use Rattle.show_input.specs.Input.{Refuses, ComesTo};
+ghost use Rattle.format.specs.Sheet.{longest, outcome};
+ghost use Rattle.show_input.specs.Input.{Prepared, ComesTo};
 
 use base_nodeset::NodeSet;
 use base_tables::trees::Trees;
 use base_text::refused_line;
 use format::{LONGEST, Refusal};
-use sheet_decode::judge::Verdict;
-use sheet_decode::read::{Graph, read};
+use sheet_decode::read::read;
 use solve_start::begin;
 
 // A byte more than a sheet may have: so much of an input tells whether it is too long.
@@ -20,73 +18,33 @@ pub const INPUT: usize = LONGEST + 1;
 // Room for a refusal's line.
 pub const REFUSAL: usize = 40;
 
-// The line of a refusal has so many bytes. Where there is none, a walk through the readings starts from the tables.
+// The tables that a walk through the readings starts from.
 #[derive(Drop)]
 pub struct Input {
-    pub refused: bool,
-    pub bytes: usize,
     pub trees: Trees,
-    pub owner: [u8; 128],
-    pub rows: [u64; 256],
+    pub rows: [NodeSet; 128],
 }
 
-// A refusal is one line.
-fn refuse(why: Refusal, out: &mut [u8]) -> Input
-    requires { 40 ≤ length out.old }
-    ensures { Refuses why out.old result out.new }
+// What a sheet's list begins from; or why there is none.
+fn prepare(sheet: &[u8]) -> Result<Input, Refusal>
+    ensures { Prepared result (outcome sheet.now) }
 {
-    let bytes = refused_line(why, out, 0);
-    let trees = Trees {
-        n: 0,
-        leaves: NodeSet::empty(),
-        roots: NodeSet::empty(),
+    let graph = read(sheet)?;
+    let mut rows = [NodeSet::empty(); 128];
+    let Some(trees) = begin(&graph, &mut rows) else {
+        return Err(Refusal::NoReading);
     };
-    let owner = [0u8; 128];
-    let rows = [0u64; 256];
-    Input {
-        refused: true,
-        bytes,
-        trees,
-        owner,
-        rows,
-    }
+    Ok(Input { trees, rows })
 }
 
-// What a well-formed sheet's list begins from, or that it has no reading.
-fn prepare(graph: Graph, out: &mut [u8]) -> Input
-    requires { SheetTables graph.n graph.parent graph.low graph.high × (40 ≤ length out.old) }
-    ensures { (s : Content) → Tables s.graph graph.n graph.parent graph.low graph.high graph.edges →
-        ComesTo out.old result out.new (accepted s) }
-{
-    let parent = graph.parent;
-    let low = graph.low;
-    let high = graph.high;
-    let mut owner = [0u8; 128];
-    let mut rows = [0u64; 256];
-    let begun = begin(&parent, &low, &high, graph.n, &mut owner, &mut rows);
-    if !begun.solvable {
-        return refuse(Refusal::NoReading, out);
-    }
-    let trees = begun.trees;
-    Input {
-        refused: false,
-        bytes: 0,
-        trees,
-        owner,
-        rows,
-    }
-}
-
-// Of the first `got` bytes of the input. The place lent for it is as long as what tells, so that nothing of that is left unread.
-pub fn read_input(input: &[u8], got: usize, out: &mut [u8]) -> Input
+// Of the first `got` bytes of the input; or how many bytes the refusal's line has. The place lent for the input is as long as what tells,
+// so that nothing of that is left unread.
+pub fn read_input(input: &[u8], got: usize, out: &mut [u8]) -> Result<Input, usize>
     requires { (suc longest ≤ length input.now) × (got ≤ length input.now) × (40 ≤ length out.old) }
     ensures { ComesTo out.old result out.new (outcome (take got input.now)) }
 {
-    let answer = read(&input[..got]);
-    let verdict = answer.verdict;
-    let graph = answer.graph;
-    match verdict {
-        Verdict::Refused(why) => refuse(why, out),
-        Verdict::Accepted => prepare(graph, out),
+    match prepare(&input[..got]) {
+        Ok(begun) => Ok(begun),
+        Err(why) => Err(refused_line(why, out, 0)),
     }
 }

@@ -100,17 +100,13 @@ module _ (n : ℕ) where
       ∙ ap (take n) (drop-append-add p (joined ps ++ rest) (i * n))
       ∙ row_of ps (λ j l. long (suc j) (omega (arith, l))) rest i (omega (arith, h))
 
--- where the row of the number k + 1 stands
-module _ (n passed k at : ℕ) (after : passed ≤ k) (is : at ≡ (k - passed) * n) where
-  pub row_next : at + n ≡ (k + 1 - passed) * n
-  row_next =
-      let more : suc (k - passed) ≡ k + 1 - passed = omega (arith, after) in
-      omega (arith, is, suc-mul (k - passed) n) ∙ ap (λ (m : ℕ). m * n) more
-
-  pub row_within : (last room : ℕ) → k < last → (last - passed) * n ≤ room → at + n ≤ room
-  row_within last room before fits =
-      let fewer : k + 1 - passed ≤ last - passed = omega (arith, before) in
-      omega (arith, row_next, mul-le-mul_right n fewer, fits)
+-- the row of the number k + 1 is there
+pub row_within : (n passed k : ℕ) → passed ≤ k → (last room : ℕ) → k < last → (last - passed) * n ≤ room → (k - passed) * n + n ≤ room
+row_within n passed k after last room before fits =
+    let more : suc (k - passed) ≡ k + 1 - passed = omega (arith, after) in
+    let fewer : k + 1 - passed ≤ last - passed = omega (arith, before) in
+    let next : (k - passed) * n + n ≡ (k + 1 - passed) * n = omega (arith, suc-mul (k - passed) n) ∙ ap (λ (m : ℕ). m * n) more in
+    omega (arith, next, mul-le-mul_right n fewer, fits)
 
 -- the bytes from there on
 rest_is : (at : ℕ) (bytes : List ℕ) → take (length bytes - at) (drop at bytes) ≡ drop at bytes

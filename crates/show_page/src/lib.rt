@@ -20,34 +20,28 @@ pub struct Lines {
 // none is left or no place for one.
 pub fn fill_page(
     placings: &[u8],
-    trees: Trees,
+    trees: &Trees,
     passed: usize,
     last: usize,
     done: usize,
     out: &mut [u8],
 ) -> Lines
-    requires n_bound { (trees.n ≤ 128) × (passed ≤ done) × (done ≤ last) × (last ≤ limit) }
-    requires held { Held trees passed last placings.now × (1100 ≤ length out.old) }
+    requires n_bound { (trees.now.n ≤ 128) × (passed ≤ done) × (done ≤ last) × (last ≤ limit) }
+    requires held { Held trees.now passed last placings.now × (1100 ≤ length out.old) }
     ensures bytes_in_bounds { (result.bytes ≤ length out.new) × (result.last ≤ last) × (done ≤ result.last) × (done < last → done < result.last) }
-    ensures written { (s : Held trees passed last placings.now) → Written out.old 0 (lines s.graph done result.last) out.new result.bytes }
+    ensures written { (s : Held trees.now passed last placings.now) → Written out.old 0 (lines s.graph done result.last) out.new result.bytes }
 {
     let n = trees.n;
-    let mut at = (done - passed) * n;
-    let mut k = done;
     let mut end = 0;
-    while k < last {
-        k += 1;
-        end = reading_line(&placings[at..], n, trees.roots, k, out, end);
-        at += n;
+    for k in done..last {
+        let placing = &placings[(k - passed) * n..];
+        end = reading_line(placing, n, trees.roots, k + 1, out, end);
         if out.len() - end < LINE {
             return Lines {
                 bytes: end,
-                last: k,
+                last: k + 1,
             };
         }
     }
-    Lines {
-        bytes: end,
-        last: k,
-    }
+    Lines { bytes: end, last }
 }

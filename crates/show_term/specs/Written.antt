@@ -11,9 +11,8 @@ pub record Writable (n : ℕ) (parents placing table : List ℕ) (labelled : Nod
   pub content : Content
   pub sheet : List ℕ
   pub is_accepted : outcome_of Labelled sheet ≡ accepted content
-  pub low : List ℕ
-  pub high : List ℕ
+  pub heads : List NodeSet
   pub edges : ℕ
-  pub tables : Tables content.graph n parents low high edges
+  pub tables : Tables content.graph n parents heads edges
   pub solved : SolvedForm content.graph (take n placing)
   pub nodes : NodeTable content table labelled

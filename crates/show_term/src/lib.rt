@@ -11,6 +11,7 @@ ghost use Rattle.show_drawing.specs.Drawn.{Drawn};
 ghost use Rattle.show_term.specs.Written.{Writable};
 
 use base_nodeset::NodeSet;
+use base_tables::Graph;
 use graph::NONE;
 
 // The constant of an empty hole, which also fills out a pair.
@@ -250,18 +251,19 @@ fn topmost(
 
 // Writes the term of the placing in the first n bytes; its length. Bytes past it stay unwritten.
 pub fn write(
-    parent: &[u8],
-    n: usize,
+    graph: &Graph,
     placing: &[u8],
     table: &[u8],
     labelled: NodeSet,
     out: &mut [u8],
 ) -> usize
-    requires { Writable n parent.now placing.now table.now labelled × (2048 ≤ length out.old) }
-    ensures { (w : Writable n parent.now placing.now table.now labelled) → Drawn (text (term w.content (take n placing.now))) result out.old out.new }
+    requires { Writable graph.now.n graph.now.parent placing.now table.now labelled × (2048 ≤ length out.old) }
+    ensures { (w : Writable graph.now.n graph.now.parent placing.now table.now labelled) →
+        Drawn (text (term w.content (take graph.now.n placing.now))) result out.old out.new }
 {
+    let n = graph.n;
     let mut above = [0u8; 128];
-    fill_above(parent, placing, n, &mut above);
+    fill_above(&graph.parent, placing, n, &mut above);
     let top = Roots {
         under: NONE,
         from: 0,

@@ -4,8 +4,11 @@
 
 ghost use Rattle.std.specs.Prelude.{◌≡◌, ◌*◌, ◌≤◌, length};
 ghost use Rattle.base_tables.specs.Tables.{SheetTables};
-ghost use Rattle.solve_answer.specs.Calls.{Counts, StretchCall, ConfigurationCall, Seeks, DrawingCall, PlacingCall};
+ghost use Rattle.solve_answer.specs.declared.Unplaced.TheVariants.{Refused};
+ghost use Rattle.solve_answer.specs.Calls.{Counts, answer_of, place_after, StretchCall, ConfigurationCall, Seeks, DrawingCall, PlacingCall};
 
+use base_nodeset::NodeSet;
+use base_tables::Graph;
 use check_placing::Answers;
 use format::Refusal;
 use graph::{Count, LAST};
@@ -19,54 +22,30 @@ use solve_stretch::stretch;
 // The bytes that a drawing is lent at least.
 const DRAWING: usize = 1024;
 
-// The answer to the count.
+// Why no placing was handed out: no reading exists, and the cycle of so many pairs fills the buffer; or another refusal.
 #[derive(Clone, Copy)]
-pub enum Counted {
-    Readings(Count),
-    Refused(Refusal),
-}
-
-// The answer to a reading or a configuration. Where no reading exists the cycle of so many pairs fills the buffer.
-#[derive(Clone, Copy)]
-pub enum Placed {
-    Done,
+pub enum Unplaced {
     NoReading(usize),
     Refused(Refusal),
 }
 
-// Whether there is a reading with the number wanted.
-#[derive(Clone, Copy)]
-pub enum Sought {
-    Found,
-    Refused(Refusal),
-}
+impl From<Refusal> for Unplaced {
+    ghost from_gives = { λ why u. u ≡ Refused why };
 
-// The answer to a text of a reading, its drawing or its term: the length.
-#[derive(Clone, Copy)]
-pub enum Drawn {
-    Length(usize),
-    Refused(Refusal),
-}
-
-// The answer to the check of a placing: solved form, configuration, reading.
-#[derive(Clone, Copy)]
-pub enum PlacingChecked {
-    Answers(Answers),
-    Refused(Refusal),
-}
-
-pub fn count_of(parent: &[u8], heads_low: &[u64], heads_high: &[u64], n: usize) -> Counted
-    requires { SheetTables n parent.now heads_low.now heads_high.now }
-    ensures { (s : SheetTables n parent.now heads_low.now heads_high.now) →
-        Counts s.graph result }
-{
-    let mut owner = [0u8; 128];
-    let mut rows = [0u64; 256];
-    let begun = begin(parent, heads_low, heads_high, n, &mut owner, &mut rows);
-    if !begun.solvable {
-        return Counted::Refused(Refusal::NoReading);
+    fn from(why: Refusal) -> Unplaced {
+        Unplaced::Refused(why)
     }
-    Counted::Readings(count(&rows, &owner, begun.trees))
+}
+
+pub fn count_of(graph: &Graph) -> Result<Count, Refusal>
+    requires { SheetTables graph.now }
+    ensures { (s : SheetTables graph.now) → Counts s.graph result }
+{
+    let mut rows = [NodeSet::empty(); 128];
+    let Some(trees) = begin(graph, &mut rows) else {
+        return Err(Refusal::NoReading);
+    };
+    Ok(count(&rows, &trees))
 }
 
 // What a call hands out: the readings after the first `passed`, as many as fit into the first `room` bytes lent.
@@ -76,144 +55,82 @@ pub struct Wanted {
     pub room: usize,
 }
 
-// The answer, and the number of the last reading handed out so far.
-#[derive(Clone, Copy)]
-pub struct Handed {
-    pub answer: Placed,
-    pub last: usize,
-}
-
-pub fn readings_of(
-    parent: &[u8],
-    heads_low: &[u64],
-    heads_high: &[u64],
-    n: usize,
-    wanted: Wanted,
-    out: &mut [u8],
-) -> Handed
-    requires sheet_tables { SheetTables n parent.now heads_low.now heads_high.now }
-    requires n_le_room { 2 * n ≤ length out.old → (n ≤ wanted.room) × (wanted.room ≤ length out.old) }
-    ensures { (s : SheetTables n parent.now heads_low.now heads_high.now) →
-        StretchCall s.graph wanted.room wanted.passed out.old result.answer result.last out.new }
+// The number of the last reading handed out.
+pub fn readings_of(graph: &Graph, wanted: Wanted, out: &mut [u8]) -> Result<usize, Unplaced>
+    requires sheet_tables { SheetTables graph.now }
+    requires n_le_room { 2 * graph.now.n ≤ length out.old → (graph.now.n ≤ wanted.room) × (wanted.room ≤ length out.old) }
+    ensures { (s : SheetTables graph.now) →
+        StretchCall s.graph wanted.room wanted.passed out.old (answer_of result) (place_after wanted.passed result) out.new }
 {
+    if out.len() < 2 * graph.n {
+        return Err(Unplaced::Refused(Refusal::SmallBuffer));
+    }
+    let mut rows = [NodeSet::empty(); 128];
+    let Some(trees) = begin(graph, &mut rows) else {
+        let pairs = witness(graph, out);
+        return Err(Unplaced::NoReading(pairs));
+    };
     let passed = wanted.passed;
-    if out.len() < 2 * n {
-        return Handed {
-            answer: Placed::Refused(Refusal::SmallBuffer),
-            last: passed,
-        };
-    }
-    let mut owner = [0u8; 128];
-    let mut rows = [0u64; 256];
-    let begun = begin(parent, heads_low, heads_high, n, &mut owner, &mut rows);
-    if !begun.solvable {
-        let pairs = witness(parent, heads_low, heads_high, n, out);
-        return Handed {
-            answer: Placed::NoReading(pairs),
-            last: passed,
-        };
-    }
     let room = wanted.room;
-    let last = stretch(&rows, &owner, begun.trees, passed, &mut out[..room]);
+    let last = stretch(&rows, &trees, passed, &mut out[..room]);
     if last == passed {
-        return Handed {
-            answer: Placed::Refused(Refusal::NoSuchReading),
-            last: passed,
-        };
+        return Err(Unplaced::Refused(Refusal::NoSuchReading));
     }
-    Handed {
-        answer: Placed::Done,
-        last,
-    }
+    Ok(last)
 }
 
-pub fn configuration_of(
-    parent: &[u8],
-    heads_low: &[u64],
-    heads_high: &[u64],
-    n: usize,
-    out: &mut [u8],
-) -> Placed
-    requires { SheetTables n parent.now heads_low.now heads_high.now }
-    ensures { (s : SheetTables n parent.now heads_low.now heads_high.now) →
-        ConfigurationCall s.graph out.old result out.new }
+pub fn configuration_of(graph: &Graph, out: &mut [u8]) -> Result<(), Unplaced>
+    requires { SheetTables graph.now }
+    ensures { (s : SheetTables graph.now) → ConfigurationCall s.graph out.old result out.new }
 {
-    let wanted = Wanted { passed: 0, room: n };
-    let handed = readings_of(parent, heads_low, heads_high, n, wanted, out);
-    let answer = handed.answer;
-    if let Placed::Done = answer {
-        configure(parent, n, out);
-    }
-    answer
+    let wanted = Wanted {
+        passed: 0,
+        room: graph.n,
+    };
+    readings_of(graph, wanted, out)?;
+    configure(graph, out);
+    Ok(())
 }
 
 // The reading with this number, into the first n bytes of a table of its own: what is lent for an answer stays unwritten.
-pub fn seek(
-    parent: &[u8],
-    heads_low: &[u64],
-    heads_high: &[u64],
-    n: usize,
-    number: usize,
-    placing: &mut [u8],
-) -> Sought
-    requires { SheetTables n parent.now heads_low.now heads_high.now × (length placing.old ≡ 128) }
-    ensures seeks { (s : SheetTables n parent.now heads_low.now heads_high.now) →
-        Seeks s.graph number placing.new result }
-    ensures placing_len { length placing.new ≡ 128 }
+pub fn seek(graph: &Graph, number: usize, placing: &mut [u8; 128]) -> Result<(), Refusal>
+    requires { SheetTables graph.now }
+    ensures { (s : SheetTables graph.now) → Seeks s.graph number placing.new result }
 {
-    let mut owner = [0u8; 128];
-    let mut rows = [0u64; 256];
-    let begun = begin(parent, heads_low, heads_high, n, &mut owner, &mut rows);
-    if !begun.solvable {
-        return Sought::Refused(Refusal::NoReading);
-    }
+    let mut rows = [NodeSet::empty(); 128];
+    let Some(trees) = begin(graph, &mut rows) else {
+        return Err(Refusal::NoReading);
+    };
     if number == 0 {
-        return Sought::Refused(Refusal::NoSuchReading);
+        return Err(Refusal::NoSuchReading);
     }
     if LAST < number {
-        return Sought::Refused(Refusal::NoSuchReading);
+        return Err(Refusal::NoSuchReading);
     }
-    if find(&rows, &owner, begun.trees, number, placing) {
-        return Sought::Found;
+    if find(&rows, &trees, number, placing) {
+        return Ok(());
     }
-    Sought::Refused(Refusal::NoSuchReading)
+    Err(Refusal::NoSuchReading)
 }
 
-pub fn drawing_of(
-    parent: &[u8],
-    heads_low: &[u64],
-    heads_high: &[u64],
-    n: usize,
-    number: usize,
-    out: &mut [u8],
-) -> Drawn
-    requires { SheetTables n parent.now heads_low.now heads_high.now }
-    ensures { (s : SheetTables n parent.now heads_low.now heads_high.now) →
-        DrawingCall s.graph number out.old result out.new }
+pub fn drawing_of(graph: &Graph, number: usize, out: &mut [u8]) -> Result<usize, Refusal>
+    requires { SheetTables graph.now }
+    ensures { (s : SheetTables graph.now) → DrawingCall s.graph number out.old result out.new }
 {
     if out.len() < DRAWING {
-        return Drawn::Refused(Refusal::SmallBuffer);
+        return Err(Refusal::SmallBuffer);
     }
     let mut placing = [0u8; 128];
-    match seek(parent, heads_low, heads_high, n, number, &mut placing) {
-        Sought::Refused(why) => Drawn::Refused(why),
-        Sought::Found => Drawn::Length(draw(parent, n, &placing, out)),
-    }
+    seek(graph, number, &mut placing)?;
+    Ok(draw(graph, &placing, out))
 }
 
-pub fn checked_placing(
-    parent: &[u8],
-    heads_low: &[u64],
-    heads_high: &[u64],
-    n: usize,
-    placing: &[u8],
-) -> PlacingChecked
-    requires { SheetTables n parent.now heads_low.now heads_high.now }
-    ensures { (s : SheetTables n parent.now heads_low.now heads_high.now) →
-        PlacingCall s.graph placing.now result }
+pub fn checked_placing(graph: &Graph, placing: &[u8]) -> Result<Answers, Refusal>
+    requires { SheetTables graph.now }
+    ensures { (s : SheetTables graph.now) → PlacingCall s.graph placing.now result }
 {
-    if placing.len() < n {
-        return PlacingChecked::Refused(Refusal::SmallBuffer);
+    if placing.len() < graph.n {
+        return Err(Refusal::SmallBuffer);
     }
-    PlacingChecked::Answers(check_placing::check(parent, heads_low, heads_high, n, placing))
+    Ok(check_placing::check(graph, placing))
 }

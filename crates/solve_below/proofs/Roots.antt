@@ -1,12 +1,13 @@
 -- Below a root are the other nodes of its fragment, and what is below its leaves: a path leaves a fragment at a leaf.
 use Prim.Native.Nat.{ℕ, ◌+◌, ◌≤◌, ◌<◌}
 use mathlib.Core.Path.{◌≡◌, refl, sym, subst, ◌∙◌}
-use mathlib.Core.List.{List}
+use mathlib.Core.List.{List, ◌++◌}
 use mathlib.Core.Bool.{true, false, ◌&&◌, true≢false}
 use mathlib.Core.Logic.{◌⊎◌, inl, inr, ⊎_elim, ◌↔◌}
 use native.Mathlib.Omega.{arith}
 use lib.Dec.{eqb, ltb}
-use lib.ListN.{get_or}
+use lib.ListN.{get_or, replicate, length-replicate, get_or-append}
+use Rattle.std.proofs.lemmas.List.{get_or-replicate}
 use borrow.Author.Tests.{eq-eqb, ne_eqb, eqb-true, eqb-false, lt-ltb, le-ltb, ltb-true, ltb-false}
 use Rattle.base_finite.proofs.Laws.{by_bool, and_both, or_left, or_right, or_cases}
 use Rattle.base_nodeset.specs.Set.{mem, Empty, Inserted, Removed, Union, Intersection, Lowest}
@@ -17,7 +18,7 @@ use Rattle.theory_edges.proofs.Ends.{leaf_below, root_below}
 use Rattle.theory_forest.specs.Shape.{Shaped}
 use Rattle.theory_forest.proofs.Closure.{path_map, path_trans}
 use Rattle.theory_forest.proofs.Fragments.{leaf_not_root, root_parentless, own_above, own_of_root, own_edge, leaf_below_own}
-use Rattle.base_tables.specs.Sets.{in_row, RowPut}
+use Rattle.base_tables.specs.Rows.{nothing, in_row, RowPut}
 use Rattle.base_tables.specs.Trees.{TreesOf, Fits}
 use Rattle.base_tables.specs.declared.trees.Trees.{Trees}
 use Rattle.solve_below.specs.Below.{Under, Blank, Fragments, Gathered, UnderRoot, BelowRoot}
@@ -64,7 +65,7 @@ module _ (g : Graph) (s : Shaped g) (r : ℕ) (is : root g r ≡ true) where
 
   -- by the tables
 
-  module _ (t : Trees) (ends : TreesOf g t) (table sets : List ℕ) (of : Fragments t.n (own g) table) (are : Under g sets)
+  module _ (t : Trees) (ends : TreesOf g t) (table sets : List NodeSet) (of : Fragments t.n (own g) table) (are : Under g sets)
       (nodes leaves : NodeSet) (is_nodes : (v : ℕ) → mem nodes v ≡ in_row table r v) (is_leaves : Intersection nodes t.leaves leaves) where
     small : r < t.n
     small = omega (arith, root_below g r is, ends.nodes)
@@ -129,7 +130,7 @@ module _ (g : Graph) (s : Shaped g) (r : ℕ) (is : root g r ≡ true) where
     )
 
 -- the same owners, the same fragments
-pub fragments_same : (n : ℕ) (owner owner' : ℕ → ℕ) (sets : List ℕ) → ((v : ℕ) → v < n → owner' v ≡ owner v) → Fragments n owner sets → Fragments n owner' sets
+pub fragments_same : (n : ℕ) (owner owner' : ℕ → ℕ) (sets : List NodeSet) → ((v : ℕ) → v < n → owner' v ≡ owner v) → Fragments n owner sets → Fragments n owner' sets
 fragments_same n owner owner' sets same of =
     record {
       row_is = λ r v h.
@@ -139,16 +140,16 @@ fragments_same n owner owner' sets same of =
           (λ (t : ltb v n ≡ false). rw t);
     }
 
-pub fragments_own : (g : Graph) {t : Trees} {owners : List ℕ} (sets : List ℕ) → Fits g t owners → Fragments t.n (λ v. get_or owners v 0) sets → Fragments t.n (own g) sets
-fragments_own g {t} {owners} sets fits of = fragments_same t.n (λ v. get_or owners v 0) (own g) sets (λ v h. sym (fits.owners_are v h)) of
+pub fragments_own : (g : Graph) {t : Trees} (sets : List NodeSet) → Fits g t → Fragments t.n (λ v. get_or t.owner v 0) sets → Fragments t.n (own g) sets
+fragments_own g {t} sets fits of = fragments_same t.n (λ v. get_or t.owner v 0) (own g) sets (λ v h. sym (fits.owners_are v h)) of
 
 -- the rows of the leaves passed gathered
 
-pub record GatheredSo (sets : List ℕ) (set leaves left all : NodeSet) : Type 0 where
+pub record GatheredSo (sets : List NodeSet) (set leaves left all : NodeSet) : Type 0 where
   pub of_leaves : (l : ℕ) → mem left l ≡ true → mem leaves l ≡ true
   pub all_is : (v : ℕ) → (mem all v ≡ true) ↔ ((mem set v ≡ true) ⊎ ((l : ℕ) × (mem leaves l ≡ true) × (mem left l ≡ false) × (in_row sets l v ≡ true)))
 
-pub gather_start : (sets : List ℕ) (set leaves : NodeSet) → GatheredSo sets set leaves leaves set
+pub gather_start : (sets : List NodeSet) (set leaves : NodeSet) → GatheredSo sets set leaves leaves set
 gather_start sets set leaves =
     record {
       of_leaves = λ l h. h;
@@ -160,7 +161,7 @@ gather_start sets set leaves =
       );
     }
 
-pub gather_more : (sets : List ℕ) (set leaves left all left' row all' : NodeSet) (l : ℕ) → Lowest left l left' → ((v : ℕ) → mem row v ≡ in_row sets l v) → Union all row all'
+pub gather_more : (sets : List NodeSet) (set leaves left all left' row all' : NodeSet) (l : ℕ) → Lowest left l left' → ((v : ℕ) → mem row v ≡ in_row sets l v) → Union all row all'
     → GatheredSo sets set leaves left all → GatheredSo sets set leaves left' all'
 gather_more sets set leaves left all left' row all' l first is_row union so =
     record {
@@ -195,7 +196,7 @@ gather_more sets set leaves left all left' row all' l first is_row union so =
         (λ (t : mem left' k ≡ true). absurd (true≢false (sym (removed_member left l left' first.others k t).0 ∙ e)))
         (λ t. t)
 
-pub gather_end : (sets : List ℕ) (set leaves left all : NodeSet) → Empty left → GatheredSo sets set leaves left all → Gathered sets set leaves all
+pub gather_end : (sets : List NodeSet) (set leaves left all : NodeSet) → Empty left → GatheredSo sets set leaves left all → Gathered sets set leaves all
 gather_end sets set leaves left all none so v = (
   λ m.
       ⊎_elim
@@ -209,30 +210,24 @@ gather_end sets set leaves left all none so v = (
 
 -- sets cleared
 
-pub blank_none : (sets : List ℕ) → Blank 0 sets
-blank_none sets = record { nothing = λ u v h. absurd (omega arith) }
-
-pub blank_more : (k : ℕ) (sets sets' : List ℕ) (s : NodeSet) → Empty s → RowPut k s sets sets' → Blank k sets → Blank (k + 1) sets'
-blank_more k sets sets' s nothing p so =
+pub blank_filled : (n k : ℕ) (z : NodeSet) (filled rest : List NodeSet) → n ≤ k → Empty z → filled ≡ replicate k z → Blank n (filled ++ rest)
+blank_filled n k z filled rest fits empty is =
     record {
-      nothing = λ u v h.
-          p.row_is u v
-          ∙ by_bool (eqb u k)
-          (λ (e : eqb u k ≡ true). rw e (nothing v))
-          (λ (e : eqb u k ≡ false).
-          let other : u ≡ k → ⊥ = eqb-false u k e in
-          rw e (so.nothing u v (omega arith)));
+      nothing = λ u v h. rw (is, row u (omega arith)) (empty v);
     }
+  where
+    row : (j : ℕ) → j < k → get_or (replicate k z ++ rest) j nothing ≡ z
+    row j h = get_or-append (replicate k z) rest nothing j (omega (arith, length-replicate k z)) ∙ get_or-replicate k j z nothing h
 
 -- the nodes before k in the fragments
 
-abbrev pub FragmentsSo : ℕ → List ℕ → ℕ → List ℕ → Type 0
+abbrev pub FragmentsSo : ℕ → List ℕ → ℕ → List NodeSet → Type 0
 FragmentsSo n owners k sets = (r v : ℕ) → r < n → in_row sets r v ≡ (ltb v k && eqb (get_or owners v 0) r)
 
-pub fragments_start : (n : ℕ) (owners sets : List ℕ) → Blank n sets → FragmentsSo n owners 0 sets
+pub fragments_start : (n : ℕ) (owners : List ℕ) (sets : List NodeSet) → Blank n sets → FragmentsSo n owners 0 sets
 fragments_start n owners sets blank r v h = blank.nothing r v h ∙ sym (rw (le-ltb v 0 (omega arith)))
 
-pub fragments_more : (n : ℕ) (owners : List ℕ) (k : ℕ) (sets sets' : List ℕ) (at : ℕ) (old new : NodeSet) → get_or owners k 0 ≡ at → ((v : ℕ) → mem old v ≡ in_row sets at v) → Inserted old k new
+pub fragments_more : (n : ℕ) (owners : List ℕ) (k : ℕ) (sets sets' : List NodeSet) (at : ℕ) (old new : NodeSet) → get_or owners k 0 ≡ at → ((v : ℕ) → mem old v ≡ in_row sets at v) → Inserted old k new
     → RowPut at new sets sets' → at < n → FragmentsSo n owners k sets → FragmentsSo n owners (k + 1) sets'
 fragments_more n owners k sets sets' at old new is are inserted put within so r v h =
     put.row_is r v

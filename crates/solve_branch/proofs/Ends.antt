@@ -19,8 +19,7 @@ use Rattle.theory_edges.proofs.Ends.{leaf_below, root_below}
 use Rattle.theory_forest.proofs.Closure.{path_trans}
 use Rattle.theory_forest.proofs.Fragments.{own_within}
 use Rattle.theory_walk.proofs.Halves.{solvable_loopless, torn}
-use Rattle.base_tables.specs.Rows.{Closed}
-use Rattle.base_tables.specs.Sets.{in_row, RowPut}
+use Rattle.base_tables.specs.Rows.{in_row, RowPut, Closed}
 use Rattle.base_tables.specs.Trees.{TreesOf, Fits}
 use Rattle.base_tables.specs.declared.trees.Trees.{Trees}
 use Rattle.solve_below.specs.Below.{Fragments, UnderRoot, Under}
@@ -31,7 +30,7 @@ use Rattle.solve_branch.specs.Dead.{Meets, Dead}
 -- one row
 
 module _ {g : Graph} {t : Trees} (ends : TreesOf g t) (u : ℕ) {r : NodeSet} where
-  pub row_of_leaf : (sets : List ℕ) → Under g sets → mem t.leaves u ≡ true → ((v : ℕ) → mem r v ≡ in_row sets u v) → EndRow g u r
+  pub row_of_leaf : (sets : List NodeSet) → Under g sets → mem t.leaves u ≡ true → ((v : ℕ) → mem r v ≡ in_row sets u v) → EndRow g u r
   row_of_leaf sets are h is =
       let is_leaf : leaf g u ≡ true = sym (ends.leaves_are u) ∙ h in
       record {
@@ -51,17 +50,17 @@ module _ {g : Graph} {t : Trees} (ends : TreesOf g t) (u : ℕ) {r : NodeSet} wh
 
 -- the rows before k
 
-pub record EndsSo (g : Graph) (k : ℕ) (rows : List ℕ) : Type 0 where
+pub record EndsSo (g : Graph) (k : ℕ) (rows : List NodeSet) : Type 0 where
   pub end : (u v : ℕ) → u < k → End g u → (in_row rows u v ≡ true) ↔ Descent g u v
   pub inner : (u v : ℕ) → u < k → (End g u → ⊥) → in_row rows u v ≡ false
 
-pub record AfterBlank (k : ℕ) (rows : List ℕ) : Type 0 where
+pub record AfterBlank (k : ℕ) (rows : List NodeSet) : Type 0 where
   pub nothing : (u v : ℕ) → k ≤ u → in_row rows u v ≡ false
 
-pub ends_none : (g : Graph) (rows : List ℕ) → EndsSo g 0 rows
+pub ends_none : (g : Graph) (rows : List NodeSet) → EndsSo g 0 rows
 ends_none g rows = record { end = λ u v h. absurd (omega arith); inner = λ u v h. absurd (omega arith) }
 
-pub ends_more : (g : Graph) (k : ℕ) {rows rows' : List ℕ} (r : NodeSet) → EndRow g k r → RowPut k r rows rows' → EndsSo g k rows → EndsSo g (k + 1) rows'
+pub ends_more : (g : Graph) (k : ℕ) {rows rows' : List NodeSet} (r : NodeSet) → EndRow g k r → RowPut k r rows rows' → EndsSo g k rows → EndsSo g (k + 1) rows'
 ends_more g k {rows} {rows'} r is p so =
     record {
       end = λ u v h e.
@@ -87,10 +86,10 @@ ends_more g k {rows} {rows'} r is p so =
           rw t (so.inner u v (omega arith) no));
     }
 
-pub blank_after : (rows : List ℕ) → Blank rows → AfterBlank 0 rows
+pub blank_after : (rows : List NodeSet) → Blank rows → AfterBlank 0 rows
 blank_after rows blank = record { nothing = λ u v h. blank.nothing u v }
 
-pub blank_more : (k : ℕ) {rows rows' : List ℕ} {r : NodeSet} → RowPut k r rows rows' → AfterBlank k rows → AfterBlank (k + 1) rows'
+pub blank_more : (k : ℕ) {rows rows' : List NodeSet} {r : NodeSet} → RowPut k r rows rows' → AfterBlank k rows → AfterBlank (k + 1) rows'
 blank_more k p so =
     record {
       nothing = λ u v h.
@@ -100,7 +99,7 @@ blank_more k p so =
           (λ (t : eqb u k ≡ false). rw t (so.nothing u v (omega arith)));
     }
 
-pub ends_all : (g : Graph) (n k : ℕ) (rows : List ℕ) → n ≡ g.nodes → n ≤ k → EndsSo g k rows → AfterBlank k rows → EndRows g rows
+pub ends_all : (g : Graph) (n k : ℕ) (rows : List NodeSet) → n ≡ g.nodes → n ≤ k → EndsSo g k rows → AfterBlank k rows → EndRows g rows
 ends_all g n k rows nodes all so blank = record { closed = closed; row_is = λ u v e. so.end u v (small u e) e }
   where
     small : (u : ℕ) → End g u → u < k
@@ -129,14 +128,14 @@ ends_all g n k rows nodes all so blank = record { closed = closed; row_is = λ u
 
 -- one of the nodes below one of the leaves
 
-pub record MeetsSo (sets : List ℕ) (nodes leaves left : NodeSet) : Type 0 where
+pub record MeetsSo (sets : List NodeSet) (nodes leaves left : NodeSet) : Type 0 where
   pub of_leaves : (l : ℕ) → mem left l ≡ true → mem leaves l ≡ true
   pub none : (l v : ℕ) → mem leaves l ≡ true → mem left l ≡ false → mem nodes v ≡ true → in_row sets l v ≡ true → ⊥
 
-pub meets_start : (sets : List ℕ) (nodes leaves : NodeSet) → MeetsSo sets nodes leaves leaves
+pub meets_start : (sets : List NodeSet) (nodes leaves : NodeSet) → MeetsSo sets nodes leaves leaves
 meets_start sets nodes leaves = record { of_leaves = λ l h. h; none = λ l v m out. absurd (true≢false (sym m ∙ out)) }
 
-module _ {sets : List ℕ} {nodes leaves left left' : NodeSet} (row both : NodeSet) {l : ℕ} (first : Lowest left l left') (so : MeetsSo sets nodes leaves left)
+module _ {sets : List NodeSet} {nodes leaves left left' : NodeSet} (row both : NodeSet) {l : ℕ} (first : Lowest left l left') (so : MeetsSo sets nodes leaves left)
     (is_row : (v : ℕ) → mem row v ≡ in_row sets l v) (is_both : Intersection row nodes both) (b : Bool) (is : b ≡ not (any 128 (mem both))) where
   pub meets_found : not b ≡ true → Meets sets nodes leaves true
   meets_found e =
@@ -156,16 +155,16 @@ module _ {sets : List ℕ} {nodes leaves left left' : NodeSet} (row both : NodeS
             (λ (t : eqb k l ≡ false). so.none k v m (sym (removed_other left l left' first.others k (eqb-false k l t)) ∙ out) in_set inside_row);
       }
 
-pub meets_none : (sets : List ℕ) (nodes leaves left : NodeSet) → Empty left → MeetsSo sets nodes leaves left → Meets sets nodes leaves false
+pub meets_none : (sets : List NodeSet) (nodes leaves left : NodeSet) → Empty left → MeetsSo sets nodes leaves left → Meets sets nodes leaves false
 meets_none sets nodes leaves left none so = (λ e. absurd (false≢true e), λ (l, v, m, s, e). absurd (so.none l v m (none l) s e))
 
 -- what shows at a leaf
 
-module _ (g : Graph) (t : Trees) {owners : List ℕ} (f : Fits g t owners) (sets : List ℕ) (are : Under g sets) (a : ℕ) (is_leaf : leaf g a ≡ true) (row : NodeSet) (is_row : (v : ℕ) → mem row v ≡ in_row sets a v) where
+module _ (g : Graph) (t : Trees) (f : Fits g t) (sets : List NodeSet) (are : Under g sets) (a : ℕ) (is_leaf : leaf g a ≡ true) (row : NodeSet) (is_row : (v : ℕ) → mem row v ≡ in_row sets a v) where
   pub dead_cycle : mem row a ≡ true → Unsolvable g
   dead_cycle m s = solvable_loopless s a ((are a a is_leaf).0 (sym (is_row a) ∙ m))
 
-  pub dead_torn : (table : List ℕ) → Fragments t.n (own g) table → (nodes cut others : NodeSet) → ((v : ℕ) → mem nodes v ≡ in_row table (get_or owners a 0) v) → Intersection nodes t.leaves cut → Removed cut a others
+  pub dead_torn : (table : List NodeSet) → Fragments t.n (own g) table → (nodes cut others : NodeSet) → ((v : ℕ) → mem nodes v ≡ in_row table (get_or t.owner a 0) v) → Intersection nodes t.leaves cut → Removed cut a others
       → (r : Bool) → mem row a ≡ false → Meets sets row others r → Dead g a r
   dead_torn table of nodes cut others is_nodes is_cut gone true free meets =
       let x = meets.0 refl in
@@ -173,9 +172,9 @@ module _ (g : Graph) (t : Trees) {owners : List ℕ} (f : Fits g t owners) (sets
       let b = removed_member cut a others gone l x.2 in
       let p = and_both (mem nodes l) (mem t.leaves l) (sym (is_cut l) ∙ b.0) in
       let small : a < t.n = omega (arith, leaf_below g a is_leaf, f.trees.nodes) in
-      let at : get_or owners a 0 < t.n = omega (arith, f.owners_are a small, own_within g f.shaped a (leaf_below g a is_leaf), f.trees.nodes) in
-      let q = and_both (ltb l t.n) (eqb (own g l) (get_or owners a 0)) (sym (of.row_is (get_or owners a 0) l at) ∙ sym (is_nodes l) ∙ p.0) in
-      let same : own g a ≡ own g l = sym (f.owners_are a small) ∙ sym (eqb-true (own g l) (get_or owners a 0) q.1) in
+      let at : get_or t.owner a 0 < t.n = omega (arith, f.owners_are a small, own_within g f.shaped a (leaf_below g a is_leaf), f.trees.nodes) in
+      let q = and_both (ltb l t.n) (eqb (own g l) (get_or t.owner a 0)) (sym (of.row_is (get_or t.owner a 0) l at) ∙ sym (is_nodes l) ∙ p.0) in
+      let same : own g a ≡ own g l = sym (f.owners_are a small) ∙ sym (eqb-true (own g l) (get_or t.owner a 0) q.1) in
       let l_leaf : leaf g l ≡ true = sym (f.trees.leaves_are l) ∙ p.1 in
       torn g f.shaped is_leaf l_leaf same (λ e. b.1 (sym e)) ((are a x.1 is_leaf).0 (sym (is_row x.1) ∙ x.3)) ((are l x.1 l_leaf).0 x.4)
   dead_torn table of nodes cut others is_nodes is_cut gone false free meets = λ d. true≢false (sym (is_row a ∙ (are a a is_leaf).1 d) ∙ free)

@@ -1,3 +1,3 @@
 pub mod Walks
-pub mod Dived
+pub mod Ways
 pub mod Ends

@@ -4,10 +4,10 @@ use Rattle.base_nodeset.specs.Set.{mem}
 use Rattle.base_nodeset.specs.declared.NodeSet.{NodeSet}
 use Rattle.graph.specs.Graph.{Graph, Descent}
 use Rattle.graph.specs.Placing.{Unsolvable}
-use Rattle.base_tables.specs.Sets.{in_row}
+use Rattle.base_tables.specs.Rows.{in_row}
 
 -- one of the leaves is above one of the nodes
-abbrev pub Meets : List ℕ → NodeSet → NodeSet → Bool → Type 0
+abbrev pub Meets : List NodeSet → NodeSet → NodeSet → Bool → Type 0
 Meets sets nodes leaves r =
     (r ≡ true) ↔ ((l : ℕ) × (v : ℕ) × (mem leaves l ≡ true) × (mem nodes v ≡ true) × (in_row sets l v ≡ true))
 

@@ -8,8 +8,8 @@ use native.Mathlib.Nat.{zero-mul, zero-mod}
 use native.Mathlib.Omega.{arith}
 use lib.Bits.{bit_or}
 use lib.Dec.{eqb, ltb}
-use lib.ListN.{length, get_or, set, get_or-eq_default}
-use lib.Seq.{get_or-set_same, get_or-set_other}
+use lib.ListN.{get_or, set, replicate, length-replicate, get_or-eq_default}
+use Rattle.std.proofs.lemmas.List.{get_or-replicate}
 use borrow.Author.Tests.{eq-eqb, ne_eqb, eqb-true, eqb-false, lt-ltb, le-ltb, ltb-true, ltb-false}
 use Rattle.base_finite.proofs.Laws.{by_bool, or_cases, or_false, and_both, and_true, and_false}
 use Rattle.base_nodeset.specs.Set.{bit, member, mem, Empty, Inserted, Union, Lowest}
@@ -18,29 +18,17 @@ use Rattle.base_nodeset.proofs.Words.{bit_zero, bit_or_lem, bit_power, shift_one
 use Rattle.base_nodeset.proofs.Laws.{member_zero, member_low, member_high}
 use Rattle.base_nodeset.proofs.Members.{removed_member}
 use Rattle.graph.specs.Graph.{none}
-use Rattle.base_tables.specs.Rows.{IsRow, in_row as in_pair}
-use Rattle.base_tables.specs.Sets.{in_row, RowPut}
+use Rattle.base_tables.specs.Rows.{nothing, in_row, IsRow, RowPut}
 use Rattle.solve_descent.specs.Descent.{Among}
 use Rattle.solve_closure.specs.Closing.{Rising, Joined, Links, link_to, link_in, head_in, Adds}
 
 -- cleared rows
 
-pub zero_more : (l : List ℕ) (u : ℕ) → u < length l → ((k : ℕ) → k < u → get_or l k 0 ≡ 0) → (k : ℕ) → k < u + 1 → get_or (set l u 0) k 0 ≡ 0
-zero_more l u h zeros k less =
-    by_bool (eqb k u)
-    (λ (e : eqb k u ≡ true). rw (eqb-true k u e) (get_or-set_same l u 0 0 h))
-    (λ (e : eqb k u ≡ false).
-    let other : k ≡ u → ⊥ = eqb-false k u e in
-    get_or-set_other l u k 0 0 other ∙ zeros k (omega arith))
-
-zero_all : (l : List ℕ) (n : ℕ) → length l ≤ n → ((k : ℕ) → k < n → get_or l k 0 ≡ 0) → (k : ℕ) → get_or l k 0 ≡ 0
-zero_all l n long zeros k =
-    by_bool (ltb k n)
-    (λ (e : ltb k n ≡ true). zeros k (ltb-true k n e))
-    (λ (e : ltb k n ≡ false). get_or-eq_default l 0 (omega (arith, ltb-false k n e)))
-
-pub cleared : (rows : List ℕ) (n : ℕ) → length rows ≤ n → ((k : ℕ) → k < n → get_or rows k 0 ≡ 0) → (u v : ℕ) → in_row rows u v ≡ false
-cleared rows n h zeros u v = rw (zero_all rows n h zeros (2 * u), zero_all rows n h zeros (2 * u + 1)) (member_zero v)
+pub cleared : (n : ℕ) (z : NodeSet) (rows : List NodeSet) → Empty z → rows ≡ replicate n z → (u v : ℕ) → in_row rows u v ≡ false
+cleared n z rows empty is u v =
+    by_bool (ltb u n)
+    (λ (e : ltb u n ≡ true). rw (is, get_or-replicate n u z nothing (ltb-true u n e)) (empty v))
+    (λ (e : ltb u n ≡ false). rw (is, get_or-eq_default (replicate n z) nothing {n = u} (omega (arith, length-replicate n z, ltb-false u n e))) (member_zero v))
 
 -- one number more
 
@@ -105,7 +93,7 @@ columns_two p q r n low high h same same_high is is_high x =
         (λ (e : ltb x n ≡ false). let more : n ≤ x = ltb-false x n e in rw (e, le-ltb (x - 64) (n - 64) (omega arith)))
 
 -- a column with a itself
-pub column_rising : (n a : ℕ) (rows : List ℕ) (s r : NodeSet) → a < n → ((x : ℕ) → mem s x ≡ (ltb x n && in_row rows x a)) → Inserted s a r → Rising n a rows r
+pub column_rising : (n a : ℕ) (rows : List NodeSet) (s r : NodeSet) → a < n → ((x : ℕ) → mem s x ≡ (ltb x n && in_row rows x a)) → Inserted s a r → Rising n a rows r
 column_rising n a rows s r h is with_a x =
     with_a x
     ∙ rw (is x)
@@ -129,14 +117,14 @@ left_stays set within first v t = within v (removed_member _ _ _ first.others v 
 
 -- rows joined one by one
 
-pub joined_none : (set : NodeSet) (more : ℕ → Bool) (rows : List ℕ) → Joined (done set set) more rows rows
+pub joined_none : (set : NodeSet) (more : ℕ → Bool) (rows : List NodeSet) → Joined (done set set) more rows rows
 joined_none set more rows =
     record {
       long = refl;
       row_is = λ u v. rw (done_none set u) (sym (or_false (in_row rows u v)));
     }
 
-pub joined_more : (set more row : NodeSet) {x : ℕ} {left rest joined : NodeSet} {rows rows₁ rows₂ : List ℕ} → mem set x ≡ true → Lowest left x rest
+pub joined_more : (set more row : NodeSet) {x : ℕ} {left rest joined : NodeSet} {rows rows₁ rows₂ : List NodeSet} → mem set x ≡ true → Lowest left x rest
     → IsRow (in_row rows₁) x row → Union row more joined → RowPut x joined rows₁ rows₂
     → Joined (done set left) (mem more) rows rows₁ → Joined (done set rest) (mem more) rows rows₂
 joined_more set more row {x} {rows = rows} in_set first is_row is_joined put before =
@@ -151,7 +139,7 @@ joined_more set more row {x} {rows = rows} in_set first is_row is_joined put bef
           (λ (e : eqb u x ≡ false). rw e (before.row_is u v)));
     }
 
-pub joined_all : (set left : NodeSet) (more : ℕ → Bool) {rows rows' : List ℕ} → Empty left
+pub joined_all : (set left : NodeSet) (more : ℕ → Bool) {rows rows' : List NodeSet} → Empty left
     → Joined (done set left) more rows rows' → Joined (mem set) more rows rows'
 joined_all set left more none h =
     record {
@@ -161,21 +149,21 @@ joined_all set left more none h =
 
 -- edges put into the rows
 
-pub adds_ext : {f g : ℕ → ℕ → Bool} {rows rows' : List ℕ} → ((u v : ℕ) → f u v ≡ g u v) → Adds f rows rows' → Adds g rows rows'
+pub adds_ext : {f g : ℕ → ℕ → Bool} {rows rows' : List NodeSet} → ((u v : ℕ) → f u v ≡ g u v) → Adds f rows rows' → Adds g rows rows'
 adds_ext same h =
     record {
       long = h.long;
       row_is = λ u v. h.row_is u v ∙ rw (same u v);
     }
 
-pub adds_none : (f : ℕ → ℕ → Bool) (rows : List ℕ) → ((u v : ℕ) → f u v ≡ false) → Adds f rows rows
+pub adds_none : (f : ℕ → ℕ → Bool) (rows : List NodeSet) → ((u v : ℕ) → f u v ≡ false) → Adds f rows rows
 adds_none f rows never =
     record {
       long = refl;
       row_is = λ u v. rw (never u v) (sym (or_false (in_row rows u v)));
     }
 
-pub adds_more : {f g : ℕ → ℕ → Bool} {rows rows₁ rows₂ : List ℕ} → Adds f rows rows₁ → Adds g rows₁ rows₂ → Adds (λ u v. f u v || g u v) rows rows₂
+pub adds_more : {f g : ℕ → ℕ → Bool} {rows rows₁ rows₂ : List NodeSet} → Adds f rows rows₁ → Adds g rows₁ rows₂ → Adds (λ u v. f u v || g u v) rows rows₂
 adds_more {f} {g} {rows} h k =
     record {
       long = k.long ∙ h.long;
@@ -183,7 +171,7 @@ adds_more {f} {g} {rows} h k =
     }
 
 -- a row put back with the nodes that f holds of besides
-pub put_adds : (l : ℕ) (f : ℕ → Bool) (row : NodeSet) {joined : NodeSet} {rows rows' : List ℕ} → IsRow (in_row rows) l row → ((v : ℕ) → mem joined v ≡ (mem row v || f v))
+pub put_adds : (l : ℕ) (f : ℕ → Bool) (row : NodeSet) {joined : NodeSet} {rows rows' : List NodeSet} → IsRow (in_row rows) l row → ((v : ℕ) → mem joined v ≡ (mem row v || f v))
     → RowPut l joined rows rows' → Adds (λ u v. eqb u l && f v) rows rows'
 put_adds l f row {rows = rows} is_row is_joined put =
     record {
@@ -233,29 +221,29 @@ link_present above w u v e =
 
 -- one row of heads more
 
-pub head_none : (low high : List ℕ) (u v : ℕ) → head_in 0 low high u v ≡ false
-head_none low high u v = rw (le-ltb u 0 (omega arith))
+pub head_none : (heads : List NodeSet) (u v : ℕ) → head_in 0 heads u v ≡ false
+head_none heads u v = rw (le-ltb u 0 (omega arith))
 
-pub head_more : (l : ℕ) (low high : List ℕ) (u v : ℕ) → (head_in l low high u v || (eqb u l && in_pair low high l v)) ≡ head_in (l + 1) low high u v
-head_more l low high u v =
+pub head_more : (l : ℕ) (heads : List NodeSet) (u v : ℕ) → (head_in l heads u v || (eqb u l && in_row heads l v)) ≡ head_in (l + 1) heads u v
+head_more l heads u v =
     rw (below_more_test u l)
     (by_bool (eqb u l)
     (λ (e : eqb u l ≡ true).
     let q : u ≡ l = eqb-true u l e in
     rw (e, q, le-ltb l l (omega arith)))
-    (λ (e : eqb u l ≡ false). rw (e, or_false (ltb u l)) (or_false (head_in l low high u v))))
+    (λ (e : eqb u l ≡ false). rw (e, or_false (ltb u l)) (or_false (head_in l heads u v))))
 
-pub head_from : (n : ℕ) (low high : List ℕ) (u v : ℕ) → head_in n low high u v ≡ true → u < n
-head_from n low high u v t = ltb-true u n (and_both (ltb u n) (in_pair low high u v) t).0
+pub head_from : (n : ℕ) (heads : List NodeSet) (u v : ℕ) → head_in n heads u v ≡ true → u < n
+head_from n heads u v t = ltb-true u n (and_both (ltb u n) (in_row heads u v) t).0
 
 -- the edges of two tables, put into cleared rows
 
 -- the rows have the edges of f and of h, and no others
-pub record Edged (f h : ℕ → ℕ → Bool) (rows : List ℕ) : Type 0 where
+pub record Edged (f h : ℕ → ℕ → Bool) (rows : List NodeSet) : Type 0 where
   pub row_is : (u v : ℕ) → in_row rows u v ≡ (f u v || h u v)
 
-pub both_added : {f h : ℕ → ℕ → Bool} {rows₀ rows₁ rows₂ : List ℕ} → ((u v : ℕ) → in_row rows₀ u v ≡ false) → Adds f rows₀ rows₁ → Adds h rows₁ rows₂ → Edged f h rows₂
+pub both_added : {f h : ℕ → ℕ → Bool} {rows₀ rows₁ rows₂ : List NodeSet} → ((u v : ℕ) → in_row rows₀ u v ≡ false) → Adds f rows₀ rows₁ → Adds h rows₁ rows₂ → Edged f h rows₂
 both_added blank first second = record { row_is = λ u v. second.row_is u v ∙ rw (first.row_is u v, blank u v) }
 
-pub both_among : {n : ℕ} {f h : ℕ → ℕ → Bool} {rows : List ℕ} → Edged f h rows → ((u v : ℕ) → f u v ≡ true → u < n) → ((u v : ℕ) → h u v ≡ true → u < n) → Among n rows
+pub both_among : {n : ℕ} {f h : ℕ → ℕ → Bool} {rows : List NodeSet} → Edged f h rows → ((u v : ℕ) → f u v ≡ true → u < n) → ((u v : ℕ) → h u v ≡ true → u < n) → Among n rows
 both_among {f = f} {h = h} edged one other u v e = ⊎_elim (one u v) (other u v) (or_cases (f u v) (h u v) (sym (edged.row_is u v) ∙ e))

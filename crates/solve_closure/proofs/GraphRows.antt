@@ -11,6 +11,7 @@ use lib.ListN.{get_or, take}
 use lib.Seq.{get_or-take}
 use borrow.Author.Tests.{lt-ltb}
 use Rattle.base_finite.proofs.Laws.{and_both}
+use Rattle.base_nodeset.specs.declared.NodeSet.{NodeSet}
 use Rattle.graph.specs.Graph.{Graph, TreeEdge, DominanceEdge, Descent, Path, among, parent, none}
 use Rattle.graph.specs.Placing.{placing, at, hangs, Below}
 use Rattle.theory_edges.proofs.Edges.{parent_among, parent_only}
@@ -20,7 +21,7 @@ use Rattle.theory_forest.proofs.Shape.{well_formed_shaped}
 use Rattle.theory_forest.proofs.Table.{or_holds, hangs_parts}
 use Rattle.theory_forest.proofs.Forests.{placing_cases}
 use Rattle.base_tables.specs.Trees.{Parents}
-use Rattle.base_tables.specs.Rows.{in_row as in_pair}
+use Rattle.base_tables.specs.Rows.{in_row}
 use Rattle.base_tables.specs.Tables.{Tables}
 use Rattle.solve_descent.specs.Descent.{Edges}
 use Rattle.base_tables.proofs.TreeLaws.{tree_of, tables_parents, parent_here, has_parent}
@@ -40,7 +41,7 @@ parents_links p =
 by_test : {R : Type 0} (a b : Bool) → a ≡ b → (b ≡ true) ↔ R → (a ≡ true) ↔ R
 by_test a b same holds = (λ t. holds.0 (sym same ∙ t), λ r. same ∙ holds.1 r)
 
-module _ {n : ℕ} {parents lows highs : List ℕ} {edges : ℕ} (g : Graph) (t : Tables g n parents lows highs edges) where
+module _ {n : ℕ} {parents : List ℕ} {heads : List NodeSet} {edges : ℕ} (g : Graph) (t : Tables g n parents heads edges) where
   shaped : Shaped g
   shaped = well_formed_shaped t.well_formed
 
@@ -63,9 +64,9 @@ module _ {n : ℕ} {parents lows highs : List ℕ} {edges : ℕ} (g : Graph) (t 
         link_intro n parents u v below (λ e. omega (arith, b.0)) is,
   )
 
-  dominance_head : (u v : ℕ) → (head_in n lows highs u v ≡ true) ↔ DominanceEdge g u v
+  dominance_head : (u v : ℕ) → (head_in n heads u v ≡ true) ↔ DominanceEdge g u v
   dominance_head u v = (
-    λ h. sym (t.holds.heads_are u v) ∙ (and_both (ltb u n) (in_pair lows highs u v) h).1,
+    λ h. sym (t.holds.heads_are u v) ∙ (and_both (ltb u n) (in_row heads u v) h).1,
     λ h.
         let same = t.nodes in
         let b = t.holds.dominance_within u v h in
@@ -73,8 +74,8 @@ module _ {n : ℕ} {parents lows highs : List ℕ} {edges : ℕ} (g : Graph) (t 
   )
 
   -- paths over the rows that were given the tables' edges
-  pub graph_paths : {edged : List ℕ} → Edged (link_in n parents) (head_in n lows highs) edged → (u v : ℕ) → Path (Edges edged) u v ↔ Descent g u v
-  graph_paths is = path_iff (λ u v. by_test _ _ (is.row_is u v) (or_holds (link_in n parents u v) (head_in n lows highs u v) (tree_link u v) (dominance_head u v)))
+  pub graph_paths : {edged : List NodeSet} → Edged (link_in n parents) (head_in n heads) edged → (u v : ℕ) → Path (Edges edged) u v ↔ Descent g u v
+  graph_paths is = path_iff (λ u v. by_test _ _ (is.row_is u v) (or_holds (link_in n parents u v) (head_in n heads u v) (tree_link u v) (dominance_head u v)))
 
   module _ (bytes : List ℕ) (is_placing : placing g (take n bytes) ≡ true) where
     byte : (v : ℕ) → v < n → at (take n bytes) v ≡ get_or bytes v 0
@@ -101,5 +102,5 @@ module _ {n : ℕ} {parents lows highs : List ℕ} {edges : ℕ} (g : Graph) (t 
           link_intro n bytes u v below (λ e. omega (arith, leaf_below g u b.0)) is,
     )
 
-    pub placing_paths : {edged : List ℕ} → Edged (link_in n parents) (link_in n bytes) edged → (u v : ℕ) → Path (Edges edged) u v ↔ Below g (take n bytes) u v
+    pub placing_paths : {edged : List NodeSet} → Edged (link_in n parents) (link_in n bytes) edged → (u v : ℕ) → Path (Edges edged) u v ↔ Below g (take n bytes) u v
     placing_paths is = path_iff (λ u v. by_test _ _ (is.row_is u v) (or_holds (link_in n parents u v) (link_in n bytes u v) (tree_link u v) (hanging_link u v)))

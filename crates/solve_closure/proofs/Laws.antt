@@ -2,11 +2,12 @@
 use Prim.Native.Nat.{ℕ}
 use mathlib.Core.List.{List}
 use mathlib.Core.Logic.{◌↔◌}
+use Rattle.base_nodeset.specs.declared.NodeSet.{NodeSet}
 use Rattle.graph.specs.Graph.{Path}
 use Rattle.theory_forest.proofs.Closure.{path_map}
-use Rattle.base_tables.specs.Sets.{Rows}
+use Rattle.base_tables.specs.Rows.{Rows}
 
-pub rows_map : {R S : ℕ → ℕ → Type 0} {rows : List ℕ} → ((u v : ℕ) → R u v ↔ S u v) → Rows R rows → Rows S rows
+pub rows_map : {R S : ℕ → ℕ → Type 0} {rows : List NodeSet} → ((u v : ℕ) → R u v ↔ S u v) → Rows R rows → Rows S rows
 rows_map f h =
     record {
       long = h.long;

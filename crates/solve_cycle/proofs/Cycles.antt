@@ -28,8 +28,10 @@ use Rattle.theory_cycle.proofs.Trails.{EitherWay}
 use Rattle.theory_cycle.proofs.Spelt.{Step, Spelt, spelt_hypernormal}
 use Rattle.theory_cycle.proofs.Minimal.{Others, joined_without, minimal_sparse, some_edge}
 use Rattle.base_tables.specs.Rows.{in_row}
+use Rattle.base_nodeset.specs.declared.NodeSet.{NodeSet}
+use Rattle.base_tables.specs.declared.Graph.{Graph as Value}
 use Rattle.base_tables.specs.Tables.{Tables}
-use Rattle.solve_cycle.specs.Thinning.{Unsolved, TakenOut, Thinned, before}
+use Rattle.solve_cycle.specs.Thinning.{TakenOut, Thinned, before}
 use Rattle.base_tables.specs.Trees.{tied_in}
 use Rattle.solve_cycle.specs.Searching.{joined_in, seen_in, Queue, Searched}
 use Rattle.solve_cycle.specs.Spelling.{kind_in, Back, WayBack, Linked, Ring}
@@ -37,7 +39,7 @@ use Rattle.solve_cycle.proofs.Thins.{removed_tables, row_within, thinned_minimal
 use Rattle.solve_cycle.proofs.Searches.{few_found, seen_other}
 use Rattle.solve_cycle.proofs.Spells.{drop_more}
 
-module _ (h : Graph) (n : ℕ) (parents low high : List ℕ) (edges : ℕ) (t : Tables h n parents low high edges) where
+module _ (h : Graph) (n : ℕ) (parents : List ℕ) (heads : List NodeSet) (edges : ℕ) (t : Tables h n parents heads edges) where
   pub few_nodes : n ≤ 128
   few_nodes = omega (arith, t.nodes, t.well_formed.few_nodes)
 
@@ -60,19 +62,19 @@ module _ (h : Graph) (n : ℕ) (parents low high : List ℕ) (edges : ℕ) (t : 
 
   -- an edge joins its ends, either way
 
-  joined_forth : (u v : ℕ) → GraphEdge h u v → joined_in parents low high u v ≡ true
+  joined_forth : (u v : ℕ) → GraphEdge h u v → joined_in parents heads u v ≡ true
   unfolding joined_in tied_in
   joined_forth u v (inl e) = rw (eq-eqb (get_or parents v 0) u (edge_parent u v e))
   joined_forth u v (inr e) =
-      or_right (tied_in parents u v) (in_row low high u v || in_row low high v u) (or_left (in_row low high u v) (in_row low high v u) (t.holds.heads_are u v ∙ e))
+      or_right (tied_in parents u v) (in_row heads u v || in_row heads v u) (or_left (in_row heads u v) (in_row heads v u) (t.holds.heads_are u v ∙ e))
 
-  joined_back : (u v : ℕ) → GraphEdge h v u → joined_in parents low high u v ≡ true
+  joined_back : (u v : ℕ) → GraphEdge h v u → joined_in parents heads u v ≡ true
   unfolding joined_in tied_in
   joined_back u v (inl e) =
-      or_left (tied_in parents u v) (in_row low high u v || in_row low high v u)
+      or_left (tied_in parents u v) (in_row heads u v || in_row heads v u)
       (or_right (eqb (get_or parents v 0) u) (eqb (get_or parents u 0) v) (eq-eqb (get_or parents u 0) v (edge_parent v u e)))
   joined_back u v (inr e) =
-      or_right (tied_in parents u v) (in_row low high u v || in_row low high v u) (or_right (in_row low high u v) (in_row low high v u) (t.holds.heads_are v u ∙ e))
+      or_right (tied_in parents u v) (in_row heads u v || in_row heads v u) (or_right (in_row heads u v) (in_row heads v u) (t.holds.heads_are v u ∙ e))
 
   tied_edge : (u v : ℕ) → u < n → v < n → tied_in parents u v ≡ true → EitherWay (TreeEdge h) u v
   unfolding tied_in
@@ -87,7 +89,7 @@ module _ (h : Graph) (n : ℕ) (parents low high : List ℕ) (edges : ℕ) (t : 
   tied_swap u v = or_comm (eqb (get_or parents v 0) u) (eqb (get_or parents u 0) v)
 
   -- a joint is an edge of the kind that is spelled
-  pub joined_step : (u v : ℕ) → u < n → v < n → joined_in parents low high v u ≡ true → Step h (DominanceEdge h) (kind_in parents u v) u v
+  pub joined_step : (u v : ℕ) → u < n → v < n → joined_in parents heads v u ≡ true → Step h (DominanceEdge h) (kind_in parents u v) u v
   unfolding joined_in kind_in
   joined_step u v a b j =
       by_bool (tied_in parents u v)
@@ -97,16 +99,16 @@ module _ (h : Graph) (n : ℕ) (parents low high : List ℕ) (edges : ℕ) (t : 
         rw z,
         ⊎_elim
             (λ (e : tied_in parents v u ≡ true). absurd (true≢false (sym e ∙ sym (tied_swap u v) ∙ z)))
-            (λ (e : (in_row low high v u || in_row low high u v) ≡ true).
+            (λ (e : (in_row heads v u || in_row heads u v) ≡ true).
             ⊎_elim
-            (λ (m : in_row low high v u ≡ true). inr (sym (t.holds.heads_are v u) ∙ m))
-            (λ (m : in_row low high u v ≡ true). inl (sym (t.holds.heads_are u v) ∙ m))
-            (or_cases (in_row low high v u) (in_row low high u v) e))
-            (or_cases (tied_in parents v u) (in_row low high v u || in_row low high u v) j),
+            (λ (m : in_row heads v u ≡ true). inr (sym (t.holds.heads_are v u) ∙ m))
+            (λ (m : in_row heads u v ≡ true). inl (sym (t.holds.heads_are u v) ∙ m))
+            (or_cases (in_row heads v u) (in_row heads u v) e))
+            (or_cases (tied_in parents v u) (in_row heads v u || in_row heads u v) j),
       ))
 
   -- what is connected with the root is found
-  module _ (root : ℕ) (queue came place : List ℕ) (found : ℕ) (s : Searched n (joined_in parents low high) root found queue came place found) where
+  module _ (root : ℕ) (queue came place : List ℕ) (found : ℕ) (s : Searched n (joined_in parents heads) root found queue came place found) where
     Found : ℕ → Type 0
     Found v = (v < n) × (seen_in place v ≡ true)
 
@@ -117,7 +119,7 @@ module _ (h : Graph) (n : ℕ) (parents low high : List ℕ) (edges : ℕ) (t : 
         let at_root : ◌≡◌ {A = ℕ} (get_or place root 0) 0 = ap (λ (x : ℕ). get_or place x 0) (sym s.first) ∙ b.1 in
         (omega (arith, b.0, s.first), seen_other place root (λ e. omega (arith, e, at_root)))
 
-    goes_on : (v w : ℕ) → w < n → joined_in parents low high v w ≡ true → Found v → Found w
+    goes_on : (v w : ℕ) → w < n → joined_in parents heads v w ≡ true → Found v → Found w
     unfolding Found
     goes_on v w b j f =
         let p = s.holds.place_of v f.0 f.1 in
@@ -137,11 +139,11 @@ module _ (h : Graph) (n : ℕ) (parents low high : List ℕ) (edges : ℕ) (t : 
         s.holds.place_of v f.0 f.1
 
 -- the place of l
-pub linked_found : (n : ℕ) (parents low high : List ℕ) (l r : ℕ) (k : Linked n parents low high l r) (queue came place : List ℕ) (found : ℕ) → Searched n (joined_in parents low high) r found queue came place found
-    → (get_or place l 0 < found) × (get_or queue (get_or place l 0) 0 ≡ l) × (found ≤ n) × (n ≤ 128)
-linked_found n parents low high l r k queue came place found s =
-    let f = connected_found k.graph n parents low high k.edges k.tables r queue came place found s l k.connected in
-    (f.0, f.1, few_found n (joined_in parents low high) queue came place found s.holds, few_nodes k.graph n parents low high k.edges k.tables)
+pub linked_found : (value : Value) (l r : ℕ) (k : Linked value l r) (queue came place : List ℕ) (found : ℕ) → Searched value.n (joined_in value.parent value.heads) r found queue came place found
+    → (get_or place l 0 < found) × (get_or queue (get_or place l 0) 0 ≡ l) × (found ≤ value.n) × (value.n ≤ 128)
+linked_found value l r k queue came place found s =
+    let f = connected_found k.graph value.n value.parent value.heads k.edges k.tables r queue came place found s l k.connected in
+    (f.0, f.1, few_found value.n (joined_in value.parent value.heads) queue came place found s.holds, few_nodes k.graph value.n value.parent value.heads k.edges k.tables)
 
 -- the way back
 
@@ -161,20 +163,20 @@ module _ (n : ℕ) (joined : ℕ → ℕ → Bool) (queue came place : List ℕ)
       }
 
 module _
-    (n : ℕ)
-    (parents low high queue came place : List ℕ)
+    (value : Value)
+    (queue came place : List ℕ)
     (found : ℕ)
-    (q : Queue n (joined_in parents low high) queue came place found)
+    (q : Queue value.n (joined_in value.parent value.heads) queue came place found)
     (at l r : ℕ)
     (here : at < found)
     (of_leaf : get_or queue at 0 ≡ l)
     (is_root : get_or queue 0 0 ≡ r)
     (old new : List ℕ)
     (c : ℕ)
-    (long : 2 * n ≤ length old)
-    (t : WayBack parents queue came at 0 old new c) where
-  in_room : c + 1 ≤ n
-  in_room = let some = few_found n (joined_in parents low high) queue came place found q in omega (arith, t.few)
+    (long : 2 * value.n ≤ length old)
+    (t : WayBack value.parent queue came at 0 old new c) where
+  in_room : c + 1 ≤ value.n
+  in_room = let some = few_found value.n (joined_in value.parent value.heads) queue came place found q in omega (arith, t.few)
 
   kept : (j : ℕ) → j < 2 * c + 1 → get_or (set new (2 * c + 1) 3) j 0 ≡ get_or new j 0
   kept j h = get_or-set_other new (2 * c + 1) j 3 0 (λ (e : j ≡ 2 * c + 1). omega arith)
@@ -182,12 +184,12 @@ module _
   node_kept : (i : ℕ) → i < c + 1 → node (set new (2 * c + 1) 3) i ≡ node new i
   node_kept i h = kept (2 * i) (omega arith)
 
-  joint : (i : ℕ) → i < c → joined_in parents low high (node new (i + 1)) (node new i) ≡ true
+  joint : (i : ℕ) → i < c → joined_in value.parent value.heads (node new (i + 1)) (node new i) ≡ true
   joint i h =
       let p = t.steps i h in
       rw (p.3, p.4) (q.came_from p.0 p.1 (omega (arith, p.2))).1
 
-  pub ring_built : Ring n parents low high l r old (set new (2 * c + 1) 3) (c + 1)
+  pub ring_built : Ring value l r old (set new (2 * c + 1) 3) (c + 1)
   ring_built =
       let room = in_room in
       record {
@@ -210,11 +212,6 @@ module _
             drop-set-lt (2 * (c + 1)) new (2 * c + 1) 3 (omega arith) ∙ rw e (drop_more new old (2 * c + 1) 1 t.rest);
       }
 
--- copies of the tables
-abbrev pub copied : (n n₁ : ℕ) (parents low high low₁ high₁ : List ℕ) → n₁ ≡ n → low₁ ≡ low → high₁ ≡ high → Unsolved n parents low high → Unsolved n₁ parents low₁ high₁
-copied n n₁ parents low high low₁ high₁ m e f s =
-    record { graph = s.graph; edges = s.edges; tables = rw (m, e, f) s.tables; unsolvable = s.unsolvable }
-
 -- the edge that closes the cycle
 
 pub lowest_of_lem : (p : ℕ → Bool) (m k : ℕ) → any m p ≡ true → k ≡ least m p → (k < m) × (p k ≡ true)
@@ -223,39 +220,39 @@ lowest_of_lem p m k e i =
     let small : least m p < m = omega (arith, least_at m p x.0 x.1 x.2, x.1) in
     (omega arith, rw i (least_holds m p small))
 
-module _ (g : Graph) (n : ℕ) (parents low high : List ℕ) (t : Thinned g n parents low high (before n)) where
-  some_leaf : any n (λ l. any 128 (in_row low high l)) ≡ true
+module _ (g : Graph) (value : Value) (t : Thinned g value (before value.n)) where
+  some_leaf : any value.n (λ l. any 128 (in_row value.heads l)) ≡ true
   some_leaf =
-      let e = some_edge (over g t.kept) (thinned_shaped g n parents low high (before n) t) t.unsolvable in
-      let there : in_row low high e.0 e.1 ≡ true = t.tables.holds.heads_are e.0 e.1 ∙ e.2 in
-      let w = row_within g n parents low high (before n) t e.0 e.1 there in
-      let few = few_nodes (over g t.kept) n parents low high (different t.kept) t.tables in
-      any_at n (λ l. any 128 (in_row low high l)) e.0 w.0 (any_at 128 (in_row low high e.0) e.1 (omega (arith, w.1)) there)
+      let e = some_edge (over g t.kept) (thinned_shaped g value (before value.n) t) t.unsolvable in
+      let there : in_row value.heads e.0 e.1 ≡ true = t.tables.holds.heads_are e.0 e.1 ∙ e.2 in
+      let w = row_within g value (before value.n) t e.0 e.1 there in
+      let few = few_nodes (over g t.kept) value.n value.parent value.heads (different t.kept) t.tables in
+      any_at value.n (λ l. any 128 (in_row value.heads l)) e.0 w.0 (any_at 128 (in_row value.heads e.0) e.1 (omega (arith, w.1)) there)
 
-  pub first_leaf_is : (l : ℕ) → l ≡ least n (λ x. any 128 (in_row low high x)) → (l < n) × (any 128 (in_row low high l) ≡ true)
-  first_leaf_is l i = lowest_of_lem (λ x. any 128 (in_row low high x)) n l some_leaf i
+  pub first_leaf_is : (l : ℕ) → l ≡ least value.n (λ x. any 128 (in_row value.heads x)) → (l < value.n) × (any 128 (in_row value.heads l) ≡ true)
+  first_leaf_is l i = lowest_of_lem (λ x. any 128 (in_row value.heads x)) value.n l some_leaf i
 
-  module _ (l r : ℕ) (edge : in_row low high l r ≡ true) (low' high' : List ℕ) (o : TakenOut l r low high low' high') where
+  module _ (l r : ℕ) (edge : in_row value.heads l r ≡ true) (value' : Value) (o : TakenOut l r value value') where
     kept_edge : DominanceEdge (over g t.kept) l r
     kept_edge = sym (t.tables.holds.heads_are l r) ∙ edge
 
-    rest_tables : Tables (removed (over g t.kept) l r) n parents low' high' (different (without t.kept l r))
-    rest_tables = removed_tables (over g t.kept) n parents low high (different t.kept) l r low' high' t.tables o
+    rest_tables : Tables (removed (over g t.kept) l r) value'.n value'.parent value'.heads (different (without t.kept l r))
+    rest_tables = removed_tables (over g t.kept) value (different t.kept) l r value' t.tables o
 
-    pub linked : Linked n parents low' high' l r
+    pub linked : Linked value' l r
     unfolding removed
     linked =
-        let w = row_within g n parents low high (before n) t l r edge in
+        let w = row_within g value (before value.n) t l r edge in
         record {
           graph = removed (over g t.kept) l r;
           edges = different (without t.kept l r);
           tables = rest_tables;
-          leaf_small = w.0;
-          root_small = w.1;
-          connected = joined_without (over g t.kept) (thinned_shaped g n parents low high (before n) t) (thinned_minimal g n parents low high t) l r kept_edge;
+          leaf_small = rw o.same.nodes w.0;
+          root_small = rw o.same.nodes w.1;
+          connected = joined_without (over g t.kept) (thinned_shaped g value (before value.n) t) (thinned_minimal g value t) l r kept_edge;
         }
 
-    module _ (shaped : Shaped g) (old new : List ℕ) (c : ℕ) (long : 2 * n ≤ length old) (ring : Ring n parents low' high' l r old new c) where
+    module _ (shaped : Shaped g) (old new : List ℕ) (c : ℕ) (long : 2 * value'.n ≤ length old) (ring : Ring value' l r old new c) where
       bytes : length (take (2 * c) new) ≡ 2 * c
       bytes = length-take-le (2 * c) new (omega (arith, ring.long, ring.few))
 
@@ -286,7 +283,7 @@ module _ (g : Graph) (n : ℕ) (parents low high : List ℕ) (t : Thinned g n pa
       step i h =
           let p = ring.steps i h in
           rw p.1
-          (joined_step (removed (over g t.kept) l r) n parents low' high' (different (without t.kept l r)) rest_tables
+          (joined_step (removed (over g t.kept) l r) value'.n value'.parent value'.heads (different (without t.kept l r)) rest_tables
           (node new i) (node new (i + 1)) (ring.within i (omega arith)) (ring.within (i + 1) h) p.0)
 
       spelt : Spelt g (Others (over g t.kept) l r) l r (take (2 * c) new)
@@ -304,5 +301,5 @@ module _ (g : Graph) (n : ℕ) (parents low high : List ℕ) (t : Thinned g n pa
       pub ring_cycle : hypernormal_cycle g (take (2 * c) new) ≡ true
       ring_cycle =
           spelt_hypernormal g shaped (Others (over g t.kept) l r) l r
-          (minimal_sparse (over g t.kept) (thinned_shaped g n parents low high (before n) t) (thinned_minimal g n parents low high t) g t.inside l r kept_edge)
+          (minimal_sparse (over g t.kept) (thinned_shaped g value (before value.n) t) (thinned_minimal g value t) g t.inside l r kept_edge)
           (take (2 * c) new) spelt

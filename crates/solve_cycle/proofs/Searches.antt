@@ -13,8 +13,7 @@ use Rattle.base_finite.proofs.Laws.{by_bool, or_false, or_right, and_false, coun
 use Rattle.graph.specs.Graph.{none}
 use Rattle.base_nodeset.specs.Set.{mem, Empty, Inserted}
 use Rattle.base_nodeset.specs.declared.NodeSet.{NodeSet}
-use Rattle.base_tables.specs.Rows.{in_row as in_pair}
-use Rattle.base_tables.specs.Sets.{Long, in_row, RowPut}
+use Rattle.base_tables.specs.Rows.{Long, in_row, RowPut}
 use Rattle.base_tables.specs.Trees.{tied_in}
 use Rattle.solve_closure.proofs.Edges.{below_more_test}
 use Rattle.solve_cycle.specs.Searching.{joined_in, Near, seen_in, Queue, Grown, Reached, Visited, Unsearched, Searched}
@@ -47,27 +46,27 @@ module _ (p : ℕ → Bool) (n : ℕ) (s : NodeSet) (before : (x : ℕ) → mem 
 
 -- the answers of `joined`, by cases
 
-module _ (parents low high : List ℕ) (u v : ℕ) where
-  pub joined_first : (b : Bool) → b ≡ tied_in parents u v → b ≡ true → true ≡ joined_in parents low high u v
+module _ (parents : List ℕ) (heads : List NodeSet) (u v : ℕ) where
+  pub joined_first : (b : Bool) → b ≡ tied_in parents u v → b ≡ true → true ≡ joined_in parents heads u v
   unfolding joined_in
   joined_first b e t = let y : tied_in parents u v ≡ true = sym e ∙ t in rw y
 
-  pub joined_second : (b : Bool) → b ≡ in_pair low high u v → b ≡ true → true ≡ joined_in parents low high u v
+  pub joined_second : (b : Bool) → b ≡ in_row heads u v → b ≡ true → true ≡ joined_in parents heads u v
   unfolding joined_in
   joined_second b e t =
-      let y : in_pair low high u v ≡ true = sym e ∙ t in
+      let y : in_row heads u v ≡ true = sym e ∙ t in
       rw y (sym (or_right (tied_in parents u v) true refl))
 
-  pub joined_third : (a b d : Bool) → a ≡ tied_in parents u v → b ≡ in_pair low high u v → d ≡ in_pair low high v u → a ≡ false → b ≡ false → d ≡ joined_in parents low high u v
+  pub joined_third : (a b d : Bool) → a ≡ tied_in parents u v → b ≡ in_row heads u v → d ≡ in_row heads v u → a ≡ false → b ≡ false → d ≡ joined_in parents heads u v
   unfolding joined_in
   joined_third a b d e f h s t = rw (← e, s, ← f, t) h
 
 -- the rows of what is joined, one more
 
-pub near_none : (n : ℕ) (joined : ℕ → ℕ → Bool) (near : List ℕ) → Long near → Near n joined 0 near
+pub near_none : (n : ℕ) (joined : ℕ → ℕ → Bool) (near : List NodeSet) → Long near → Near n joined 0 near
 near_none n joined near long = record { long = long; row_is = λ u v h. absurd (omega arith) }
 
-pub near_more : (n : ℕ) (joined : ℕ → ℕ → Bool) (k : ℕ) (near near' : List ℕ) (row : NodeSet) → Near n joined k near → ((v : ℕ) → mem row v ≡ (ltb v n && joined k v)) → RowPut k row near near' → Near n joined (k + 1) near'
+pub near_more : (n : ℕ) (joined : ℕ → ℕ → Bool) (k : ℕ) (near near' : List NodeSet) (row : NodeSet) → Near n joined k near → ((v : ℕ) → mem row v ≡ (ltb v n && joined k v)) → RowPut k row near near' → Near n joined (k + 1) near'
 near_more n joined k near near' row so is put =
     record {
       long = put.long ∙ so.long;
@@ -275,7 +274,7 @@ searched_more n joined root done queue came place found queue' came' place' foun
     }
 
 -- a search of the rows is one of what they hold
-pub near_searched : (n : ℕ) (joined : ℕ → ℕ → Bool) (near : List ℕ) (root : ℕ) (queue came place : List ℕ) (found : ℕ) → Near n joined n near
+pub near_searched : (n : ℕ) (joined : ℕ → ℕ → Bool) (near : List NodeSet) (root : ℕ) (queue came place : List ℕ) (found : ℕ) → Near n joined n near
     → Searched n (in_row near) root found queue came place found → Searched n joined root found queue came place found
 near_searched n joined near root queue came place found is s =
     let q = s.holds in

@@ -1,13 +1,13 @@
 -- Dropping edges one by one: the rest of a graph's edges is a graph in tables again, and an edge that was needed stays
 -- needed when others go. So when all edges are settled, those kept are a minimal set.
 use Prim.Native.Nat.{ℕ, suc, ◌+◌, ◌≤◌, ◌<◌}
-use mathlib.Core.Path.{◌≡◌, refl, sym, subst, subst₂, ◌∙◌}
+use mathlib.Core.Path.{◌≡◌, refl, sym, ap, subst₂, ◌∙◌}
 use mathlib.Core.List.{List, [], ◌∷◌}
 use mathlib.Core.Bool.{Bool, true, false, cond, not, ◌&&◌, ◌||◌, true≢false}
 use mathlib.Core.Logic.{⊎_elim, ◌↔◌}
 use native.Mathlib.Omega.{arith}
 use lib.Dec.{eqb, ltb}
-use lib.ListN.{length}
+use lib.ListN.{length, get_or}
 use borrow.Author.Tests.{eq-eqb, eqb-true, lt-ltb, ltb-true, ltb-false, not-true}
 use Rattle.base_finite.proofs.Laws.{by_bool, and_both, or_cases, not_holding, test_ext}
 use Rattle.base_nodeset.specs.Set.{mem, Empty, Removed}
@@ -22,11 +22,10 @@ use Rattle.theory_list.proofs.Redundancy.{without_lacks, without_keeps}
 use Rattle.theory_edges.specs.Edges.{over}
 use Rattle.theory_cycle.proofs.Minimal.{Minimal, still_needed}
 use Rattle.base_tables.specs.Rows.{in_row, IsRow, RowPut}
+use Rattle.base_tables.specs.declared.Graph.{Graph as Value}
 use Rattle.base_tables.specs.Tables.{Tables}
-use Rattle.base_tables.specs.Trees.{Parents, TreeOf, Filled, Bounded, TreesOf}
 use Rattle.base_tables.specs.declared.trees.Trees.{Trees}
-use Rattle.base_tables.proofs.TreeLaws.{own_is}
-use Rattle.solve_cycle.specs.Thinning.{Unsolved, Known, TakenOut, Thinned, and_edge, before}
+use Rattle.solve_cycle.specs.Thinning.{Unsolved, Known, SameTrees, TakenOut, Thinned, and_edge, before}
 
 -- the list without an edge
 
@@ -74,32 +73,31 @@ removed_well_formed g l r w =
       few_edges = omega (arith, without_fewer g.dominance l r, w.few_edges);
     }
 
-pub removed_tables : (g : Graph) (n : ℕ) (parents low high : List ℕ) (edges l r : ℕ) (low' high' : List ℕ) → Tables g n parents low high edges → TakenOut l r low high low' high'
-    → Tables (removed g l r) n parents low' high' (different (without g.dominance l r))
+pub removed_tables : (g : Graph) (value : Value) (edges l r : ℕ) (value' : Value) → Tables g value.n value.parent value.heads edges → TakenOut l r value value'
+    → Tables (removed g l r) value'.n value'.parent value'.heads (different (without g.dominance l r))
 unfolding removed
-removed_tables g n parents low high edges l r low' high' t o =
+removed_tables g value edges l r value' t o =
     record {
       well_formed = removed_well_formed g l r t.well_formed;
-      nodes = t.nodes;
+      nodes = o.same.nodes ∙ t.nodes;
       holds = record {
         tree_within = t.holds.tree_within;
         one_parent = t.holds.one_parent;
         dominance_within = λ x y m. t.holds.dominance_within x y (without_among g.dominance l r x y m);
-        parents_long = t.holds.parents_long;
-        low_long = o.low_long ∙ t.holds.low_long;
-        high_long = o.high_long ∙ t.holds.high_long;
-        parent_is = t.holds.parent_is;
+        parents_long = ap length o.same.parents ∙ t.holds.parents_long;
+        heads_long = o.long ∙ t.holds.heads_long;
+        parent_is = λ v h. ap (λ (ps : List ℕ). get_or ps v 0) o.same.parents ∙ t.holds.parent_is v h;
         heads_are = λ a b. o.row_is a b ∙ rw (t.holds.heads_are a b) (sym (without_is g.dominance l r a b));
         edges_are = refl;
       };
     }
 
 -- row l without r, stored
-pub row_out : (l r : ℕ) (row : NodeSet) {rest : NodeSet} {low high low' high' : List ℕ} → IsRow (in_row low high) l row → Removed row r rest → RowPut l rest low high low' high' → TakenOut l r low high low' high'
-row_out l r row is out put =
+pub row_out : (l r : ℕ) (row : NodeSet) {rest : NodeSet} {value value' : Value} → SameTrees value value' → IsRow (in_row value.heads) l row → Removed row r rest → RowPut l rest value.heads value'.heads → TakenOut l r value value'
+row_out l r row same is out put =
     record {
-      low_long = put.low_long;
-      high_long = put.high_long;
+      same = same;
+      long = put.long;
       row_is = λ a b.
           put.row_is a b
           ∙ by_bool (eqb a l)
@@ -107,35 +105,28 @@ row_out l r row is out put =
           (λ (e : eqb a l ≡ false). rw e);
     }
 
--- the sets read off the parents, and the owners filled in
-pub known : {n : ℕ} {parents old owners : List ℕ} {t : Trees} → Parents n parents → Bounded t → t.n ≡ n → ((g : Graph) → Shaped g → TreeOf g n parents → TreesOf g t)
-    → Filled n parents old owners n → n ≤ length old → Known t parents owners
-known {n} {parents} {old} {owners} {t} held bounded same trees filled long =
+-- the trees stay those of the value, whatever edges go
+pub known_still : {value value' : Value} {t : Trees} → SameTrees value value' → Known value t → Known value' t
+known_still {value' = value'} {t = t} same k =
     record {
-      parents_are = subst (λ (k : ℕ). Parents k parents) (sym same) held;
-      owners_are = record {
-        bounded = bounded;
-        long = omega (arith, filled.long);
-        within = λ v h. omega (arith, filled.within v (omega arith));
-      };
-      fits = λ g shaped tree.
-          let here : TreeOf g n parents = subst (λ (k : ℕ). TreeOf g k parents) same tree in
-          record {
-            shaped = shaped;
-            trees = trees g shaped here;
-            owners_are = λ v h. filled.top_is v (omega arith) ∙ own_is shaped here v (omega arith);
-          };
+      nodes = k.nodes ∙ sym same.nodes;
+      parents_are = rw (same.nodes, same.parents) k.parents_are;
+      owners_are = k.owners_are;
+      fits = λ g shaped tree. k.fits g shaped (rw (same.nodes, same.parents) at tree);
     }
+
+pub same_trees : {value value₁ value₂ : Value} → SameTrees value value₁ → SameTrees value₁ value₂ → SameTrees value value₂
+same_trees a b = record { nodes = b.nodes ∙ a.nodes; parents = b.parents ∙ a.parents }
 
 -- one edge settled
 
 -- the answer is that of the graph without the edge
-abbrev pub Answers : ℕ → List ℕ → List ℕ → List ℕ → Bool → Type 0
-Answers n parents low high b = (g : Graph) (edges : ℕ) → Tables g n parents low high edges → (b ≡ true) ↔ Solvable g
+abbrev pub Answers : Value → Bool → Type 0
+Answers value b = (g : Graph) (edges : ℕ) → Tables g value.n value.parent value.heads edges → (b ≡ true) ↔ Solvable g
 
-module _ (g : Graph) (n : ℕ) (parents low high : List ℕ) (settled : ℕ → ℕ → Bool) (t : Thinned g n parents low high settled) where
+module _ (g : Graph) (value : Value) (settled : ℕ → ℕ → Bool) (t : Thinned g value settled) where
   -- more may be called settled, where the rows have none of it
-  pub thinned_map : (more : ℕ → ℕ → Bool) → ((a b : ℕ) → in_row low high a b ≡ true → more a b ≡ true → settled a b ≡ true) → Thinned g n parents low high more
+  pub thinned_map : (more : ℕ → ℕ → Bool) → ((a b : ℕ) → in_row value.heads a b ≡ true → more a b ≡ true → settled a b ≡ true) → Thinned g value more
   thinned_map more f =
       record {
         kept = t.kept;
@@ -146,36 +137,35 @@ module _ (g : Graph) (n : ℕ) (parents low high : List ℕ) (settled : ℕ → 
       }
 
   -- an edge of the rows is between nodes
-  pub row_within : (a b : ℕ) → in_row low high a b ≡ true → (a < n) × (b < n)
+  pub row_within : (a b : ℕ) → in_row value.heads a b ≡ true → (a < value.n) × (b < value.n)
   row_within a b m =
       let w = t.tables.holds.dominance_within a b (sym (t.tables.holds.heads_are a b) ∙ m) in
       let same = t.tables.nodes in
       (omega (arith, w.0), omega (arith, w.1))
 
-  module _ (l r : ℕ) (low' high' : List ℕ) (o : TakenOut l r low high low' high') (b : Bool) (answer : Answers n parents low' high' b) where
+  module _ (l r : ℕ) (value' : Value) (o : TakenOut l r value value') (b : Bool) (answer : Answers value' b) where
     answered : (b ≡ true) ↔ Solvable (removed (over g t.kept) l r)
     answered =
         answer (removed (over g t.kept) l r) (different (without t.kept l r))
-        (removed_tables (over g t.kept) n parents low high (different t.kept) l r low' high' t.tables o)
+        (removed_tables (over g t.kept) value (different t.kept) l r value' t.tables o)
 
     -- row l put back makes the old rows
-    pub settle_stays : (row : NodeSet) {low'' high'' : List ℕ} → IsRow (in_row low high) l row → RowPut l row low' high' low'' high'' → b ≡ true → Thinned g n parents low'' high'' (and_edge settled l r)
-    settle_stays row {low''} {high''} is put so =
+    pub settle_stays : (row : NodeSet) {value'' : Value} → SameTrees value' value'' → IsRow (in_row value.heads) l row → RowPut l row value'.heads value''.heads → b ≡ true → Thinned g value'' (and_edge settled l r)
+    settle_stays row {value''} same is put so =
         let h = t.tables.holds in
         record {
           kept = t.kept;
           inside = t.inside;
           tables = record {
             well_formed = t.tables.well_formed;
-            nodes = t.tables.nodes;
+            nodes = same.nodes ∙ o.same.nodes ∙ t.tables.nodes;
             holds = record {
               tree_within = h.tree_within;
               one_parent = h.one_parent;
               dominance_within = h.dominance_within;
-              parents_long = h.parents_long;
-              low_long = put.low_long ∙ o.low_long ∙ h.low_long;
-              high_long = put.high_long ∙ o.high_long ∙ h.high_long;
-              parent_is = h.parent_is;
+              parents_long = ap length (same.parents ∙ o.same.parents) ∙ h.parents_long;
+              heads_long = put.long ∙ o.long ∙ h.heads_long;
+              parent_is = λ v k. ap (λ (ps : List ℕ). get_or ps v 0) (same.parents ∙ o.same.parents) ∙ h.parent_is v k;
               heads_are = λ x y.
                   put.row_is x y
                   ∙ by_bool (eqb x l)
@@ -196,14 +186,14 @@ module _ (g : Graph) (n : ℕ) (parents low high : List ℕ) (settled : ℕ → 
               (or_cases (settled x y) (eqb x l && eqb y r) d);
         }
 
-    pub settle_goes : b ≡ false → Thinned g n parents low' high' (and_edge settled l r)
+    pub settle_goes : b ≡ false → Thinned g value' (and_edge settled l r)
     unfolding removed
     settle_goes z =
         let es : List Edge = without t.kept l r in
         record {
           kept = es;
           inside = λ x y m. t.inside x y (without_among t.kept l r x y m);
-          tables = removed_tables (over g t.kept) n parents low high (different t.kept) l r low' high' t.tables o;
+          tables = removed_tables (over g t.kept) value (different t.kept) l r value' t.tables o;
           unsolvable = λ s. true≢false (sym (answered.1 s) ∙ z);
           needed = λ x y h m.
               ⊎_elim
@@ -221,10 +211,10 @@ module _ (g : Graph) (n : ℕ) (parents low high : List ℕ) (settled : ℕ → 
 abbrev pub row_settled : ℕ → NodeSet → ℕ → ℕ → Bool
 row_settled l left a b = ltb a l || eqb a l && not (mem left b)
 
-module _ (g : Graph) (n : ℕ) (parents low high : List ℕ) (l : ℕ) where
-  pub row_start : (left : NodeSet) → ((v : ℕ) → mem left v ≡ in_row low high l v) → Thinned g n parents low high (before l) → Thinned g n parents low high (row_settled l left)
+module _ (g : Graph) (value : Value) (l : ℕ) where
+  pub row_start : (left : NodeSet) → ((v : ℕ) → mem left v ≡ in_row value.heads l v) → Thinned g value (before l) → Thinned g value (row_settled l left)
   row_start left is t =
-      thinned_map g n parents low high (before l) t (row_settled l left) (λ a b m h.
+      thinned_map g value (before l) t (row_settled l left) (λ a b m h.
       ⊎_elim
       (λ (s : ltb a l ≡ true). s)
       (λ (s : (eqb a l && not (mem left b)) ≡ true).
@@ -234,9 +224,9 @@ module _ (g : Graph) (n : ℕ) (parents low high : List ℕ) (l : ℕ) where
       absurd (true≢false (sym there ∙ not-true (mem left b) q.1)))
       (or_cases (ltb a l) (eqb a l && not (mem left b)) h))
 
-  pub row_more : (left rest : NodeSet) (r : ℕ) → Removed left r rest → Thinned g n parents low high (and_edge (row_settled l left) l r) → Thinned g n parents low high (row_settled l rest)
+  pub row_more : (left rest : NodeSet) (r : ℕ) → Removed left r rest → Thinned g value (and_edge (row_settled l left) l r) → Thinned g value (row_settled l rest)
   row_more left rest r out t =
-      thinned_map g n parents low high (and_edge (row_settled l left) l r) t (row_settled l rest) (λ a b m h.
+      thinned_map g value (and_edge (row_settled l left) l r) t (row_settled l rest) (λ a b m h.
       settled (ltb a l) (eqb a l) (eqb b r) (mem left b) (rw (out b) at h))
     where
       settled : (p q e f : Bool) → (p || q && not (not e && f)) ≡ true → ((p || q && not f) || q && e) ≡ true
@@ -247,9 +237,9 @@ module _ (g : Graph) (n : ℕ) (parents low high : List ℕ) (l : ℕ) where
       settled false true false false h = refl
       settled false false e f h = h
 
-  pub row_end : (left : NodeSet) → Empty left → Thinned g n parents low high (row_settled l left) → Thinned g n parents low high (before (l + 1))
+  pub row_end : (left : NodeSet) → Empty left → Thinned g value (row_settled l left) → Thinned g value (before (l + 1))
   row_end left none t =
-      thinned_map g n parents low high (row_settled l left) t (before (l + 1)) (λ a b m h.
+      thinned_map g value (row_settled l left) t (before (l + 1)) (λ a b m h.
       by_bool (ltb a l)
       (λ (s : ltb a l ≡ true). rw s)
       (λ (s : ltb a l ≡ false).
@@ -258,8 +248,8 @@ module _ (g : Graph) (n : ℕ) (parents low high : List ℕ) (l : ℕ) where
 
 -- the first and the last
 
-pub thinned_start : (n : ℕ) (parents low high : List ℕ) (s : Unsolved n parents low high) → Thinned s.graph n parents low high (before 0)
-thinned_start n parents low high s =
+pub thinned_start : (value : Value) (s : Unsolved value) → Thinned s.graph value (before 0)
+thinned_start value s =
     record {
       kept = s.graph.dominance;
       inside = λ l r m. m;
@@ -268,13 +258,13 @@ thinned_start n parents low high s =
       needed = λ l r h m. absurd (omega (arith, ltb-true l 0 h));
     }
 
-pub thinned_minimal : (g : Graph) (n : ℕ) (parents low high : List ℕ) (t : Thinned g n parents low high (before n)) → Minimal (over g t.kept)
-thinned_minimal g n parents low high t =
+pub thinned_minimal : (g : Graph) (value : Value) (t : Thinned g value (before value.n)) → Minimal (over g t.kept)
+thinned_minimal g value t =
     record {
       unsolvable = t.unsolvable;
       needed = λ l r m.
-          t.needed l r (lt-ltb l n (row_within g n parents low high (before n) t l r (t.tables.holds.heads_are l r ∙ m)).0) m;
+          t.needed l r (lt-ltb l value.n (row_within g value (before value.n) t l r (t.tables.holds.heads_are l r ∙ m)).0) m;
     }
 
-pub thinned_shaped : (g : Graph) (n : ℕ) (parents low high : List ℕ) (settled : ℕ → ℕ → Bool) (t : Thinned g n parents low high settled) → Shaped (over g t.kept)
-thinned_shaped g n parents low high settled t = well_formed_shaped t.tables.well_formed
+pub thinned_shaped : (g : Graph) (value : Value) (settled : ℕ → ℕ → Bool) (t : Thinned g value settled) → Shaped (over g t.kept)
+thinned_shaped g value settled t = well_formed_shaped t.tables.well_formed

@@ -3,17 +3,17 @@
 use Rattle.std.specs.Prelude.{ℕ, ◌≤◌, ◌<◌, ◌≡◌, List, Bool, true, not, ◌&&◌, ◌||◌, eqb, ltb, length, get_or}
 use Rattle.base_finite.specs.Below.{count}
 use Rattle.graph.specs.Graph.{none}
-use Rattle.base_tables.specs.Rows.{in_row as in_pair}
-use Rattle.base_tables.specs.Sets.{Long, in_row}
+use Rattle.base_nodeset.specs.declared.NodeSet.{NodeSet}
+use Rattle.base_tables.specs.Rows.{Long, in_row}
 use Rattle.base_tables.specs.Trees.{tied_in}
 
 -- an edge joins the two
-unfoldable pub joined_in : List ℕ → List ℕ → List ℕ → ℕ → ℕ → Bool
+unfoldable pub joined_in : List ℕ → List NodeSet → ℕ → ℕ → Bool
 unfolding tied_in
-joined_in parents low high u v = tied_in parents u v || (in_pair low high u v || in_pair low high v u)
+joined_in parents heads u v = tied_in parents u v || (in_row heads u v || in_row heads v u)
 
 -- the first k rows have of each node the nodes, below n, that are joined to it
-pub record Near (n : ℕ) (joined : ℕ → ℕ → Bool) (k : ℕ) (near : List ℕ) : Type 0 where
+pub record Near (n : ℕ) (joined : ℕ → ℕ → Bool) (k : ℕ) (near : List NodeSet) : Type 0 where
   pub long : Long near
   pub row_is : (u v : ℕ) → u < k → in_row near u v ≡ (ltb v n && joined u v)
 

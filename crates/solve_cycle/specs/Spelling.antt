@@ -2,6 +2,7 @@
 use Rattle.std.specs.Prelude.{ℕ, ◌+◌, ◌*◌, ◌≤◌, ◌<◌, ◌≡◌, List, true, cond, length, get_or, drop}
 use Rattle.graph.specs.Graph.{Graph, GraphEdge}
 use Rattle.graph.specs.Cycle.{node, kind}
+use Rattle.base_tables.specs.declared.Graph.{Graph as Value}
 use Rattle.base_tables.specs.Tables.{Tables}
 use Rattle.theory_cycle.specs.Connected.{Connected}
 use Rattle.base_tables.specs.Trees.{tied_in}
@@ -33,23 +34,23 @@ pub record WayBack (parents queue came : List ℕ) (at k : ℕ) (old new : List 
   pub kinds : (i : ℕ) → i < c → kind new i ≡ kind_in parents (node new i) (node new (i + 1))
   pub rest : drop (2 * c + 1) new ≡ drop (2 * c + 1) old
 
--- the tables are those of a graph in which r and l are joined by edges taken either way
-pub record Linked (n : ℕ) (parents low high : List ℕ) (l r : ℕ) : Type 0 where
+-- the value is that of a graph in which r and l are joined by edges taken either way
+pub record Linked (value : Value) (l r : ℕ) : Type 0 where
   pub graph : Graph
   pub edges : ℕ
-  pub tables : Tables graph n parents low high edges
-  pub leaf_small : l < n
-  pub root_small : r < n
+  pub tables : Tables graph value.n value.parent value.heads edges
+  pub leaf_small : l < value.n
+  pub root_small : r < value.n
   pub connected : Connected (GraphEdge graph) r l
 
 -- c pairs: different nodes from l to r, each joined to the next, and the last with the kind of a dominance edge
-pub record Ring (n : ℕ) (parents low high : List ℕ) (l r : ℕ) (old new : List ℕ) (c : ℕ) : Type 0 where
+pub record Ring (value : Value) (l r : ℕ) (old new : List ℕ) (c : ℕ) : Type 0 where
   pub some : 0 < c
-  pub few : c ≤ n
+  pub few : c ≤ value.n
   pub long : length new ≡ length old
   pub first : node new 0 ≡ l
   pub last : (i : ℕ) → i + 1 ≡ c → (node new i ≡ r) × (kind new i ≡ 3)
-  pub within : (i : ℕ) → i < c → node new i < n
+  pub within : (i : ℕ) → i < c → node new i < value.n
   pub different : (i j : ℕ) → i < c → j < i → node new i ≡ node new j → ⊥
-  pub steps : (i : ℕ) → i + 1 < c → (joined_in parents low high (node new (i + 1)) (node new i) ≡ true) × (kind new i ≡ kind_in parents (node new i) (node new (i + 1)))
+  pub steps : (i : ℕ) → i + 1 < c → (joined_in value.parent value.heads (node new (i + 1)) (node new i) ≡ true) × (kind new i ≡ kind_in value.parent (node new i) (node new (i + 1)))
   pub rest : drop (2 * c) new ≡ drop (2 * c) old

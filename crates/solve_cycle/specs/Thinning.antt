@@ -1,10 +1,11 @@
--- Tables of a graph without a solved form, and what dropping its edges one by one leaves: a part of the edges that has no
+-- The value of a graph without a solved form, and what dropping its edges one by one leaves: a part of the edges that has no
 -- solved form either, and in which each edge that was settled is needed for that.
 use Rattle.std.specs.Prelude.{ℕ, ◌≡◌, List, Bool, true, not, ◌&&◌, ◌||◌, eqb, ltb, length}
 use Rattle.graph.specs.Graph.{Edge, Graph, different, DominanceEdge}
 use Rattle.graph.specs.Order.{removed}
 use Rattle.graph.specs.Placing.{Solvable}
 use Rattle.base_tables.specs.Rows.{in_row}
+use Rattle.base_tables.specs.declared.Graph.{Graph as Value}
 use Rattle.base_tables.specs.Tables.{Tables}
 use Rattle.base_tables.specs.Trees.{Parents, TreeOf, Owners, Fits}
 use Rattle.base_tables.specs.declared.trees.Trees.{Trees}
@@ -12,30 +13,36 @@ use Rattle.theory_forest.specs.Shape.{Shaped}
 use Rattle.theory_forest.specs.Table.{Among}
 use Rattle.theory_edges.specs.Edges.{over}
 
--- the tables are those of a well-formed graph that has no solved form
-pub record Unsolved (n : ℕ) (parents low high : List ℕ) : Type 0 where
+-- the value is that of a well-formed graph that has no solved form
+pub record Unsolved (value : Value) : Type 0 where
   pub graph : Graph
   pub edges : ℕ
-  pub tables : Tables graph n parents low high edges
+  pub tables : Tables graph value.n value.parent value.heads edges
   pub unsolvable : Solvable graph → ⊥
 
--- the trees and the owners are those of every graph whose trees the parents are
-pub record Known (t : Trees) (parents owners : List ℕ) : Type 0 where
-  pub parents_are : Parents t.n parents
-  pub owners_are : Owners t owners
-  pub fits : (g : Graph) → Shaped g → TreeOf g t.n parents → Fits g t owners
+-- the trees are those of every graph whose trees the value's parents are
+pub record Known (value : Value) (t : Trees) : Type 0 where
+  pub nodes : t.n ≡ value.n
+  pub parents_are : Parents value.n value.parent
+  pub owners_are : Owners t
+  pub fits : (g : Graph) → Shaped g → TreeOf g value.n value.parent → Fits g t
 
--- the edge from l to r is out of the rows
-pub record TakenOut (l r : ℕ) (low high low' high' : List ℕ) : Type 0 where
-  pub low_long : length low' ≡ length low
-  pub high_long : length high' ≡ length high
-  pub row_is : (a b : ℕ) → in_row low' high' a b ≡ (not (eqb a l && eqb b r) && in_row low high a b)
+-- nodes and tree edges are the same
+pub record SameTrees (value value' : Value) : Type 0 where
+  pub nodes : value'.n ≡ value.n
+  pub parents : value'.parent ≡ value.parent
 
--- The rows hold edges of g, the kept ones: with g's tree they have no solved form, and have one without any that is settled.
-pub record Thinned (g : Graph) (n : ℕ) (parents low high : List ℕ) (settled : ℕ → ℕ → Bool) : Type 0 where
+-- the edge from l to r is out of the heads
+pub record TakenOut (l r : ℕ) (value value' : Value) : Type 0 where
+  pub same : SameTrees value value'
+  pub long : length value'.heads ≡ length value.heads
+  pub row_is : (a b : ℕ) → in_row value'.heads a b ≡ (not (eqb a l && eqb b r) && in_row value.heads a b)
+
+-- The value holds edges of g, the kept ones: with g's tree they have no solved form, and have one without any that is settled.
+pub record Thinned (g : Graph) (value : Value) (settled : ℕ → ℕ → Bool) : Type 0 where
   pub kept : List Edge
   pub inside : (l r : ℕ) → Among kept l r → DominanceEdge g l r
-  pub tables : Tables (over g kept) n parents low high (different kept)
+  pub tables : Tables (over g kept) value.n value.parent value.heads (different kept)
   pub unsolvable : Solvable (over g kept) → ⊥
   pub needed : (l r : ℕ) → settled l r ≡ true → Among kept l r → Solvable (removed (over g kept) l r)
 

@@ -10,8 +10,9 @@ ghost use Rattle.graph.specs.Cycle.{hypernormal_cycle};
 ghost use Rattle.solve_cycle.specs.Thinning.{Unsolved};
 ghost use Rattle.solve_cycle.specs.Spelling.{kind_in, Back, WayBack, Linked, Ring};
 
-use base_tables::rows::{copy_rows, set_at};
-use base_tables::trees::{owners, read_trees, tied};
+use base_nodeset::NodeSet;
+use base_tables::Graph;
+use base_tables::trees::{read_trees, tied};
 use graph::{DOMINANCE, NONE, TREE};
 use minimal::{Edge, first_leaf, minimize, take_out};
 use search::{near_rows, search};
@@ -44,47 +45,41 @@ fn way_back(parent: &[u8], queue: &[u8], came: &[u8], at: usize, out: &mut [u8])
 }
 
 // A way from the edge's leaf to its root, closed by the edge.
-fn ring(parent: &[u8], low: &[u64], high: &[u64], n: usize, edge: Edge, out: &mut [u8]) -> usize
-    requires { Linked n parent.now low.now high.now edge.leaf edge.root × (2 * n ≤ length out.old) }
-    ensures { Ring n parent.now low.now high.now edge.leaf edge.root out.old out.new result }
+fn ring(graph: &Graph, edge: Edge, out: &mut [u8]) -> usize
+    requires { Linked graph.now edge.leaf edge.root × (2 * graph.now.n ≤ length out.old) }
+    ensures { Ring graph.now edge.leaf edge.root out.old out.new result }
 {
-    let mut near = [0u64; 256];
-    near_rows(parent, low, high, n, &mut near);
+    let mut near = [NodeSet::empty(); 128];
+    near_rows(graph, &mut near);
     let mut queue = [0u8; 128];
     let mut came = [0u8; 128];
     let mut place = [NONE; 128];
-    search(&near, n, edge.root, &mut queue, &mut came, &mut place);
+    search(&near, graph.n, edge.root, &mut queue, &mut came, &mut place);
     let l = edge.leaf;
     let at = place[l] as usize;
-    let c = way_back(parent, &queue, &came, at, out);
+    let c = way_back(&graph.parent, &queue, &came, at, out);
     out[2 * c + 1] = DOMINANCE;
     c + 1
 }
 
 // Writes the cycle as c pairs, node and kind of the edge to the next node, and gives c.
-pub fn witness(
-    parent: &[u8],
-    heads_low: &[u64],
-    heads_high: &[u64],
-    n: usize,
-    out: &mut [u8],
-) -> usize
-    requires { Unsolved n parent.now heads_low.now heads_high.now × (2 * n ≤ length out.old) }
-    ensures within { 2 * result ≤ 2 * n }
-    ensures cycle { (s : Unsolved n parent.now heads_low.now heads_high.now) →
-        hypernormal_cycle s.graph (take (2 * result) out.new) ≡ true }
+pub fn witness(graph: &Graph, out: &mut [u8]) -> usize
+    requires { Unsolved graph.now × (2 * graph.now.n ≤ length out.old) }
+    ensures within { 2 * result ≤ 2 * graph.now.n }
+    ensures cycle { (s : Unsolved graph.now) → hypernormal_cycle s.graph (take (2 * result) out.new) ≡ true }
     ensures rest { drop (2 * result) out.new ≡ drop (2 * result) out.old }
 {
-    let trees = read_trees(parent, n);
-    let mut owner = [0u8; 128];
-    owners(parent, n, &mut owner);
-    let mut low = [0u64; 128];
-    let mut high = [0u64; 128];
-    copy_rows(heads_low, heads_high, &mut low, &mut high);
-    minimize(parent, &owner, trees, &mut low, &mut high);
-    let leaf = first_leaf(&low, &high, n);
-    let root = set_at(&low, &high, leaf).lowest();
+    let trees = read_trees(&graph.parent, graph.n);
+    let mut thin = Graph {
+        n: graph.n,
+        parent: graph.parent,
+        heads: graph.heads,
+        edges: graph.edges,
+    };
+    minimize(&mut thin, &trees);
+    let leaf = first_leaf(&thin);
+    let root = thin.heads[leaf].lowest();
     let edge = Edge { leaf, root };
-    take_out(&mut low, &mut high, edge);
-    ring(parent, &low, &high, n, edge, out)
+    take_out(&mut thin, edge);
+    ring(&thin, edge, out)
 }

@@ -1,13 +1,11 @@
 // A search from a node over edges taken either way, breadth first.
-ghost use Rattle.std.specs.Prelude.{◌≡◌, ◌&&◌, ℕ, ◌≤◌, ◌<◌, ltb, length, get_or};
+ghost use Rattle.std.specs.Prelude.{◌≡◌, ◌&&◌, ℕ, ◌≤◌, ◌<◌, ltb, get_or};
 ghost use Rattle.base_nodeset.specs.Set.{mem};
-ghost use Rattle.base_tables.specs.Rows.{Long as Paired};
-ghost use Rattle.base_tables.specs.Sets.{Long, in_row};
+ghost use Rattle.base_tables.specs.Rows.{Long, in_row};
 ghost use Rattle.solve_cycle.specs.Searching.{joined_in, Near, Queue, Reached, Visited, Unsearched, Searched};
 
 use base_nodeset::NodeSet;
-use base_tables::rows;
-use base_tables::sets::{in_row, put_at};
+use base_tables::Graph;
 use base_tables::trees::tied;
 use graph::NONE;
 
@@ -20,27 +18,21 @@ struct Turn {
 }
 
 // An edge joins the two.
-fn joined(parent: &[u8], low: &[u64], high: &[u64], u: usize, v: usize) -> bool
-    requires { (length parent.now ≡ 128) × Paired low.now high.now × (u < 128) × (v < 128) }
-    ensures { result ≡ joined_in parent.now low.now high.now u v }
+fn joined(graph: &Graph, u: usize, v: usize) -> bool
+    requires { (u < 128) × (v < 128) }
+    ensures { result ≡ joined_in graph.now.parent graph.now.heads u v }
 {
-    if tied(parent, u, v) {
-        return true;
-    }
-    if rows::in_row(low, high, u, v) {
-        return true;
-    }
-    rows::in_row(low, high, v, u)
+    tied(&graph.parent, u, v) || graph.heads[u].has(v) || graph.heads[v].has(u)
 }
 
 // The nodes that an edge joins to u.
-fn near_row(parent: &[u8], low: &[u64], high: &[u64], n: usize, u: usize) -> NodeSet
-    requires { (length parent.now ≡ 128) × Paired low.now high.now × (n ≤ 128) × (u < n) }
-    ensures { (v : ℕ) → mem result v ≡ (ltb v n && joined_in parent.now low.now high.now u v) }
+fn near_row(graph: &Graph, u: usize) -> NodeSet
+    requires { (graph.now.n ≤ 128) × (u < graph.now.n) }
+    ensures { (v : ℕ) → mem result v ≡ (ltb v graph.now.n && joined_in graph.now.parent graph.now.heads u v) }
 {
     let mut set = NodeSet::empty();
-    for v in 0..n {
-        if joined(parent, low, high, u, v) {
+    for v in 0..graph.n {
+        if joined(graph, u, v) {
             set = set.with(v);
         }
     }
@@ -48,19 +40,18 @@ fn near_row(parent: &[u8], low: &[u64], high: &[u64], n: usize, u: usize) -> Nod
 }
 
 // Of each node the nodes that an edge joins to it.
-pub fn near_rows(parent: &[u8], low: &[u64], high: &[u64], n: usize, near: &mut [u64])
-    requires { (length parent.now ≡ 128) × Paired low.now high.now × (n ≤ 128) × Long near.old }
-    ensures { Near n (joined_in parent.now low.now high.now) n near.new }
+pub fn near_rows(graph: &Graph, near: &mut [NodeSet])
+    requires { (graph.now.n ≤ 128) × Long near.old }
+    ensures { Near graph.now.n (joined_in graph.now.parent graph.now.heads) graph.now.n near.new }
 {
-    for u in 0..n {
-        let row = near_row(parent, low, high, n, u);
-        put_at(near, u, row);
+    for u in 0..graph.n {
+        near[u] = near_row(graph, u);
     }
 }
 
 // v, put at the end of the queue if it is near the node at `from` and not found yet. Gives the number found.
 fn reach(
-    near: &[u64],
+    near: &[NodeSet],
     turn: Turn,
     v: usize,
     queue: &mut [u8],
@@ -77,7 +68,7 @@ fn reach(
     if place[v] != NONE {
         return found;
     }
-    if !in_row(near, queue[from] as usize, v) {
+    if !near[queue[from] as usize].has(v) {
         return found;
     }
     queue[found] = v as u8;
@@ -87,7 +78,7 @@ fn reach(
 }
 
 // All nodes that are near the one at `from`, found.
-fn visit(near: &[u64], turn: Turn, queue: &mut [u8], came: &mut [u8], place: &mut [u8]) -> usize
+fn visit(near: &[NodeSet], turn: Turn, queue: &mut [u8], came: &mut [u8], place: &mut [u8]) -> usize
     requires long { Long near.now × (turn.n ≤ 128) × (turn.from < turn.found) }
     requires queue { Queue turn.n (in_row near.now) queue.old came.old place.old turn.found }
     ensures { Visited turn.n (in_row near.now) (get_or queue.old turn.from 0) turn.n
@@ -104,7 +95,7 @@ fn visit(near: &[u64], turn: Turn, queue: &mut [u8], came: &mut [u8], place: &mu
 
 // All nodes that are connected with the root.
 pub fn search(
-    near: &[u64],
+    near: &[NodeSet],
     n: usize,
     root: usize,
     queue: &mut [u8],

@@ -14,21 +14,20 @@ ghost use Rattle.solve_branch.specs.States.{Dives, Leaves, Diving};
 ghost use Rattle.solve_branch.specs.Dives.{EndRow, Opens, Arrives};
 
 use base_nodeset::NodeSet;
-use base_tables::sets::{put_at, set_at};
 use base_tables::trees::Trees;
 use solve_below::under;
-use solve_branch::dive::{Dived, back, dive, turn};
-use solve_levels::{LEVELS, Level, slot};
+use solve_branch::dive::{Stuck, back, dive, turn};
+use solve_levels::{Decision, LEVELS, Level, slot};
 use solve_reduce::reduced::width;
 use solve_test::solvable;
 
 // Of a root or a leaf the nodes under it, and nothing of an inner node.
-fn end_row(sets: &[u64], fragments: &[u64], trees: Trees, u: usize) -> NodeSet
-    requires { (2 * trees.n ≤ length sets.now) × (2 * trees.n ≤ length fragments.now) × Bounded trees × (u < trees.n) }
-    ensures { (g : Graph) → Shaped g → TreesOf g trees → Fragments trees.n (own g) fragments.now → Under g sets.now → EndRow g u result }
+fn end_row(sets: &[NodeSet], fragments: &[NodeSet], trees: &Trees, u: usize) -> NodeSet
+    requires { (trees.now.n ≤ length sets.now) × (trees.now.n ≤ length fragments.now) × Bounded trees.now × (u < trees.now.n) }
+    ensures { (g : Graph) → Shaped g → TreesOf g trees.now → Fragments trees.now.n (own g) fragments.now → Under g sets.now → EndRow g u result }
 {
     if trees.leaves.has(u) {
-        return set_at(sets, u);
+        return sets[u];
     }
     if trees.roots.has(u) {
         return under(sets, fragments, trees, u);
@@ -36,47 +35,46 @@ fn end_row(sets: &[u64], fragments: &[u64], trees: Trees, u: usize) -> NodeSet
     NodeSet::empty()
 }
 
-fn end_rows(sets: &[u64], fragments: &[u64], trees: Trees, rows: &mut [u64])
-    requires { (2 * trees.n ≤ length sets.now) × (2 * trees.n ≤ length fragments.now) × Bounded trees × Blank rows.old }
-    ensures { (g : Graph) → Shaped g → TreesOf g trees → Fragments trees.n (own g) fragments.now → Under g sets.now →
+fn end_rows(sets: &[NodeSet], fragments: &[NodeSet], trees: &Trees, rows: &mut [NodeSet])
+    requires { (trees.now.n ≤ length sets.now) × (trees.now.n ≤ length fragments.now) × Bounded trees.now × Blank rows.old }
+    ensures { (g : Graph) → Shaped g → TreesOf g trees.now → Fragments trees.now.n (own g) fragments.now → Under g sets.now →
         EndRows g rows.new }
 {
     for u in 0..trees.n {
-        put_at(rows, u, end_row(sets, fragments, trees, u));
+        rows[u] = end_row(sets, fragments, trees, u);
     }
 }
 
 // Whether a level's graph has a solved form.
-fn tested(owner: &[u8], trees: Trees, states: &[u64], opened: usize) -> bool
-    requires { Owners trees owner.now × Stack trees.n states.now }
-    ensures { (g : Graph) → Fits g trees owner.now → Fragments trees.n (own g) (state trees.n 33 states.now) →
-        Under g (state trees.n (opened % 32) states.now) → (result ≡ true) ↔ Solvable g }
+fn tested(trees: &Trees, states: &[NodeSet], opened: usize) -> bool
+    requires { Owners trees.now × Stack trees.now.n states.now }
+    ensures { (g : Graph) → Fits g trees.now → Fragments trees.now.n (own g) (state trees.now.n 33 states.now) →
+        Under g (state trees.now.n (opened % 32) states.now) → (result ≡ true) ↔ Solvable g }
 {
     let wide = width(trees.n);
     let from = slot(trees.n, opened);
     let last = wide * (LEVELS + 1);
-    let mut rows = [0u64; 256];
+    let mut rows = [NodeSet::empty(); 128];
     end_rows(
         &states[from..from + wide],
         &states[last..last + wide],
         trees,
         &mut rows,
     );
-    solvable(owner, trees, &rows)
+    solvable(trees, &rows)
 }
 
 // Back from `deep` to the next half below the level `base` that has a solved form.
 fn leave(
-    owner: &[u8],
-    trees: Trees,
-    states: &mut [u64],
-    trail: &mut [u8],
+    trees: &Trees,
+    states: &mut [NodeSet],
+    trail: &mut [Decision],
     deep: Level,
     base: usize,
-) -> Dived
-    requires { Owners trees owner.now × Stack trees.n states.old × ((i : ℕ) → i < deep.depth → Noted trees.n trail.old i) × (base ≤ deep.depth) × (deep.open ≤ length trail.old) }
+) -> Result<Level, Stuck>
+    requires { Owners trees.now × Stack trees.now.n states.old × ((i : ℕ) → i < deep.depth → Noted trees.now.n trail.old i) × (base ≤ deep.depth) × (deep.opened ≤ 2 * length trail.old) }
     ensures kept { Kept base trail.old trail.new }
-    ensures opens { (g : Graph) (k : ℕ) → Fits g trees owner.now → Leaves g trail.old states.old deep deep.depth k →
+    ensures opens { (g : Graph) (k : ℕ) → Fits g trees.now → Leaves g trail.old states.old deep deep.depth k →
         Opens g trail.new states.new base k result }
 {
     let mut here = deep;
@@ -84,33 +82,35 @@ fn leave(
     loop {
         let left = back(trail, top);
         if left <= base {
-            return Dived::Stuck(here);
+            return Err(Stuck { at: here });
         }
         top = left - 1;
-        here = turn(owner, trees, states, trail, here, top);
-        if tested(owner, trees, states, here.open) {
-            return Dived::To(here);
+        here = turn(trees, states, trail, here, top);
+        if tested(trees, states, here.opened) {
+            return Ok(here);
         }
     }
 }
 
 // The next reading below a level, if there is one. Halves are tested only where a dive has led to none, and the first of them that
 // has a solved form has a reading below it.
-pub fn descend(owner: &[u8], trees: Trees, states: &mut [u64], trail: &mut [u8], at: Level) -> Dived
-    requires { Diving trees owner.now trail.old states.old at × Room trees.n trail.old }
+pub fn descend(
+    trees: &Trees,
+    states: &mut [NodeSet],
+    trail: &mut [Decision],
+    at: Level,
+) -> Result<Level, Stuck>
+    requires { Diving trees.now trail.old states.old at × Room trees.now.n trail.old }
     ensures kept { Kept at.depth trail.old trail.new }
-    ensures arrives { (g : Graph) (k : ℕ) → Fits g trees owner.now → Dives g trail.old states.old at k →
+    ensures arrives { (g : Graph) (k : ℕ) → Fits g trees.now → Dives g trail.old states.old at k →
         Arrives g trail.new states.new at.depth k result }
 {
     let mut here = at;
     loop {
         let base = here.depth;
-        match dive(owner, trees, states, trail, here) {
-            Dived::To(reading) => return Dived::To(reading),
-            Dived::Stuck(deep) => match leave(owner, trees, states, trail, deep, base) {
-                Dived::To(half) => here = half,
-                Dived::Stuck(level) => return Dived::Stuck(level),
-            },
+        match dive(trees, states, trail, here) {
+            Ok(reading) => return Ok(reading),
+            Err(stuck) => here = leave(trees, states, trail, stuck.at, base)?,
         }
     }
 }

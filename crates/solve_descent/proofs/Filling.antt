@@ -19,21 +19,21 @@ use Rattle.base_nodeset.specs.Set.{mem, Empty, Inserted, Difference}
 use Rattle.base_nodeset.specs.declared.NodeSet.{NodeSet}
 use Rattle.graph.specs.Graph.{Path, one, more}
 use Rattle.theory_forest.proofs.Closure.{path_trans, path_cons, path_lift, path_map}
-use Rattle.base_tables.specs.Sets.{Long, RowPut, Rows}
+use Rattle.base_tables.specs.Rows.{Long, RowPut, Rows}
 use Rattle.solve_descent.specs.Descent.{Edges, Among, Under, Whole, OnWay, Longer, Fills}
 
 -- from a member of the whole ones a path leads nowhere that its row does not
-whole_path : (rows : List ℕ) (whole : NodeSet) → Whole rows whole → (u : ℕ) → mem whole u ≡ true → {v : ℕ} → Path (Edges rows) u v → Edges rows u v
+whole_path : (rows : List NodeSet) (whole : NodeSet) → Whole rows whole → (u : ℕ) → mem whole u ≡ true → {v : ℕ} → Path (Edges rows) u v → Edges rows u v
 whole_path rows whole is u t (one e) = e
 whole_path rows whole is u t (more p e) = is u _ _ t (whole_path rows whole is u t p) e
 
-path_starts : (n : ℕ) (rows : List ℕ) → Among n rows → {u v : ℕ} → Path (Edges rows) u v → u < n
+path_starts : (n : ℕ) (rows : List NodeSet) → Among n rows → {u v : ℕ} → Path (Edges rows) u v → u < n
 path_starts n rows among (one e) = among _ _ e
 path_starts n rows among (more p e) = path_starts n rows among p
 
 -- rows filled: none, some and then more, all
 
-pub fills_none : (rows : List ℕ) (whole : NodeSet) → Whole rows whole → Fills rows whole rows whole
+pub fills_none : (rows : List NodeSet) (whole : NodeSet) → Whole rows whole → Fills rows whole rows whole
 fills_none rows whole is =
     record {
       long = refl;
@@ -42,7 +42,7 @@ fills_none rows whole is =
       grows = λ u t. t;
     }
 
-pub fills_more : {rows rows₁ rows₂ : List ℕ} {whole whole₁ whole₂ : NodeSet} → Fills rows whole rows₁ whole₁ → Fills rows₁ whole₁ rows₂ whole₂ → Fills rows whole rows₂ whole₂
+pub fills_more : {rows rows₁ rows₂ : List NodeSet} {whole whole₁ whole₂ : NodeSet} → Fills rows whole rows₁ whole₁ → Fills rows₁ whole₁ rows₂ whole₂ → Fills rows whole rows₂ whole₂
 fills_more f g =
     record {
       long = g.long ∙ f.long;
@@ -51,10 +51,10 @@ fills_more f g =
       grows = λ u t. g.grows u (f.grows u t);
     }
 
-pub none_whole : (rows : List ℕ) (whole : NodeSet) → Empty whole → Whole rows whole
+pub none_whole : (rows : List NodeSet) (whole : NodeSet) → Empty whole → Whole rows whole
 none_whole rows whole none u v w t = absurd (false≢true (sym (none u) ∙ t))
 
-pub fills_all : (n : ℕ) (rows rows' : List ℕ) (whole whole' : NodeSet) → Long rows → Among n rows → Fills rows whole rows' whole'
+pub fills_all : (n : ℕ) (rows rows' : List NodeSet) (whole whole' : NodeSet) → Long rows → Among n rows → Fills rows whole rows' whole'
     → ((u : ℕ) → u < n → mem whole' u ≡ true) → Rows (Path (Edges rows)) rows'
 fills_all n rows rows' whole whole' long among f all =
     record {
@@ -66,8 +66,8 @@ fills_all n rows rows' whole whole' long among f all =
     }
 
 -- one row
-module _ (rows : List ℕ) (whole : NodeSet) (is_whole : Whole rows whole) (k : ℕ) (row : NodeSet) (is : Under rows k row)
-    (rows' : List ℕ) (put : RowPut k row rows rows') (whole' : NodeSet) (with_k : Inserted whole k whole') where
+module _ (rows : List NodeSet) (whole : NodeSet) (is_whole : Whole rows whole) (k : ℕ) (row : NodeSet) (is : Under rows k row)
+    (rows' : List NodeSet) (put : RowPut k row rows rows') (whole' : NodeSet) (with_k : Inserted whole k whole') where
   here : (v : ℕ) → Edges rows' k v ↔ Path (Edges rows) k v
   here v =
       let at_k : Edges rows' k v ↔ (mem row v ≡ true) = (λ e. sym (put.row_is k v ∙ rw (eq-eqb k k refl)) ∙ e, λ t. put.row_is k v ∙ rw (eq-eqb k k refl) t) in
@@ -105,7 +105,7 @@ module _ (rows : List ℕ) (whole : NodeSet) (is_whole : Whole rows whole) (k : 
       of_before u other t = ⊎_elim (λ q. absurd (other (eqb-true u k q))) (λ m. m) (or_cases (eqb u k) (mem whole u) (sym (with_k u) ∙ t))
 
 -- one node more, of those below a number that are all whole
-pub below_whole : {rows rows' : List ℕ} {whole whole' : NodeSet} (k : ℕ) → Fills rows whole rows' whole' → mem whole' k ≡ true
+pub below_whole : {rows rows' : List NodeSet} {whole whole' : NodeSet} (k : ℕ) → Fills rows whole rows' whole' → mem whole' k ≡ true
     → ((u : ℕ) → u < k → mem whole u ≡ true) → (u : ℕ) → u < k + 1 → mem whole' u ≡ true
 below_whole {whole' = whole'} k f here below u h =
     ⊎_elim

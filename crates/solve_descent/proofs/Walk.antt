@@ -20,16 +20,15 @@ use Rattle.base_nodeset.specs.Set.{mem, Union}
 use Rattle.base_nodeset.specs.declared.NodeSet.{NodeSet}
 use Rattle.base_nodeset.proofs.Laws.{member_beyond}
 use Rattle.graph.specs.Graph.{Path, one, more}
-use Rattle.base_tables.specs.Rows.{IsRow}
-use Rattle.base_tables.specs.Sets.{in_row}
+use Rattle.base_tables.specs.Rows.{in_row, IsRow}
 use Rattle.solve_descent.specs.Descent.{Edges, Under, Whole, Listed, Walked, ToVisit}
 
--- the members of a row of words are below 128
-pub small_rows : (rows : List ℕ) → ((k : ℕ) → get_or rows k 0 < 2 ^ 64) → (u v : ℕ) → Edges rows u v → v < 128
-small_rows rows words u v t =
+-- the members of two words are below 128
+pub small_set : (s : NodeSet) → s.high < 2 ^ 64 → (v : ℕ) → mem s v ≡ true → v < 128
+small_set s high v t =
     by_bool (ltb v 128)
     (λ (e : ltb v 128 ≡ true). ltb-true v 128 e)
-    (λ (e : ltb v 128 ≡ false). absurd (false≢true (sym (member_beyond _ _ v (words _) (ltb-false v 128 e)) ∙ t)))
+    (λ (e : ltb v 128 ≡ false). absurd (false≢true (sym (member_beyond s.low s.high v high (ltb-false v 128 e)) ∙ t)))
 
 -- a set, listed behind what stands on the list
 
@@ -110,7 +109,7 @@ abbrev Visited : ℕ → ℕ → List ℕ → ℕ → Type 0
 Visited at end list u = (i : ℕ) → at ≤ i → i < end → get_or list i 0 ≡ u → ⊥
 
 -- where a walk stands
-pub record Walking (rows : List ℕ) (node : ℕ) (old : List ℕ) (found : NodeSet) (at end : ℕ) (list : List ℕ) : Type 0 where
+pub record Walking (rows : List NodeSet) (node : ℕ) (old : List ℕ) (found : NodeSet) (at end : ℕ) (list : List ℕ) : Type 0 where
   pub listed : Listed (mem found) end old list
   pub few : end ≤ count 128 (mem found)
   pub passed : at ≤ end
@@ -122,10 +121,10 @@ pub record Walking (rows : List ℕ) (node : ℕ) (old : List ℕ) (found : Node
 pub start_room : (old : List ℕ) (found : NodeSet) → length old ≡ 128 → 0 + count 128 (mem found) ≤ length old
 start_room old found long = omega (arith, long, count_le 128 (mem found))
 
-module _ (rows : List ℕ) (node : ℕ) (small : (u v : ℕ) → Edges rows u v → v < 128) where
-  pub walk_start : (old list : List ℕ) (found : NodeSet) (end : ℕ) → length old ≡ 128 → IsRow (in_row rows) node found
+module _ (rows : List NodeSet) (node : ℕ) where
+  pub walk_start : (old list : List ℕ) (found : NodeSet) (end : ℕ) → length old ≡ 128 → ((v : ℕ) → mem found v ≡ true → v < 128) → IsRow (in_row rows) node found
       → Written old 0 (members found) list end → Walking rows node list found 0 end list
-  walk_start old list found end long is_row written =
+  walk_start old list found end long small is_row written =
       let room = start_room old found long in
       let first = listed_more found old 0 room list end written (λ v. false) (mem found) old (listed_none old) (λ v t. absurd (false≢true t)) (λ v t. t) (λ v t f. false≢true f) in
       record {
@@ -135,7 +134,7 @@ module _ (rows : List ℕ) (node : ℕ) (small : (u v : ℕ) → Edges rows u v 
         reached = λ v t. one (sym (is_row v) ∙ t);
         begun = λ v e. is_row v ∙ e;
         closed = λ u v t visited e.
-            let there = listed_there found old 0 room list end written u (small node u (sym (is_row u) ∙ t)) t in
+            let there = listed_there found old 0 room list end written u (small u t) t in
             absurd (visited there.0 there.1 there.2 there.3);
       }
 
@@ -160,9 +159,9 @@ module _ (rows : List ℕ) (node : ℕ) (small : (u v : ℕ) → Edges rows u v 
         let few = w.few in
         omega (arith, together, count_le 128 (λ v. mem found v || mem fresh v), w.listed.long)
 
-    pub walk_more : length old ≡ 128 → (list' : List ℕ) (end' : ℕ) (found' : NodeSet) → Written list end (members fresh) list' end' → Union found row found'
+    pub walk_more : length old ≡ 128 → ((v : ℕ) → mem row v ≡ true → v < 128) → (list' : List ℕ) (end' : ℕ) (found' : NodeSet) → Written list end (members fresh) list' end' → Union found row found'
         → Walking rows node old found' (at + 1) end' list'
-    walk_more long list' end' found' written union =
+    walk_more long small list' end' found' written union =
         record {
           listed = listed_more fresh list end (walk_room long) list' end' written (mem found) (mem found') old w.listed grows (λ v t. joined v (new v t).0) apart;
           few =
@@ -203,7 +202,7 @@ module _ (rows : List ℕ) (node : ℕ) (small : (u v : ℕ) → Edges rows u v 
             by_bool b
             (λ (q : b ≡ true). joined v (is_row v ∙ is_whole _ u v (sym is_whole_row ∙ q) (sym (is_row u) ∙ r) e))
             (λ (q : b ≡ false).
-            let there = listed_there fresh list end (walk_room long) list' end' written u (small _ u (sym (is_row u) ∙ r)) (to_visit u ∙ rw (q, r, f)) in
+            let there = listed_there fresh list end (walk_room long) list' end' written u (small u r) (to_visit u ∙ rw (q, r, f)) in
             absurd (visited there.0 (omega (arith, there.1)) there.2 there.3)))
 
   -- nobody waits

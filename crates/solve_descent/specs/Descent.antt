@@ -4,22 +4,22 @@ use Rattle.base_finite.specs.Below.{count}
 use Rattle.base_nodeset.specs.Set.{mem}
 use Rattle.base_nodeset.specs.declared.NodeSet.{NodeSet}
 use Rattle.graph.specs.Graph.{Path}
-use Rattle.base_tables.specs.Sets.{in_row}
+use Rattle.base_tables.specs.Rows.{in_row}
 
 -- v is a successor of u
-abbrev pub Edges : List ℕ → ℕ → ℕ → Type 0
+abbrev pub Edges : List NodeSet → ℕ → ℕ → Type 0
 Edges rows u v = in_row rows u v ≡ true
 
 -- every edge starts from one of the first n nodes
-abbrev pub Among : ℕ → List ℕ → Type 0
+abbrev pub Among : ℕ → List NodeSet → Type 0
 Among n rows = (u v : ℕ) → Edges rows u v → u < n
 
 -- the nodes that a path of one or more edges leads to from the node
-abbrev pub Under : List ℕ → ℕ → NodeSet → Type 0
+abbrev pub Under : List NodeSet → ℕ → NodeSet → Type 0
 Under rows node r = (v : ℕ) → (mem r v ≡ true) ↔ Path (Edges rows) node v
 
 -- the row of each member of the set has, with a node, all of that node's row
-abbrev pub Whole : List ℕ → NodeSet → Type 0
+abbrev pub Whole : List NodeSet → NodeSet → Type 0
 Whole rows set = (u v w : ℕ) → mem set u ≡ true → Edges rows u v → Edges rows v w → Edges rows u w
 
 -- 02, Four: "a list of nodes still to visit, on which no node comes twice in one walk". The first k places of the list have nodes
@@ -55,7 +55,7 @@ pub record Longer (way : List ℕ) (depth : ℕ) (seen : NodeSet) (way' : List �
   pub each_seen : depth' + count 128 (mem seen) ≡ depth + count 128 (mem seen')
 
 -- more rows are whole than before, and paths lead where they did
-pub record Fills (rows : List ℕ) (whole : NodeSet) (rows' : List ℕ) (whole' : NodeSet) : Type 0 where
+pub record Fills (rows : List NodeSet) (whole : NodeSet) (rows' : List NodeSet) (whole' : NodeSet) : Type 0 where
   pub long : length rows' ≡ length rows
   pub same_paths : (u v : ℕ) → Path (Edges rows') u v ↔ Path (Edges rows) u v
   pub is_whole : Whole rows' whole'

@@ -7,6 +7,7 @@ use native.Mathlib.Omega.{arith}
 use lib.Dec.{ltb}
 use lib.ListN.{length, get_or}
 use Rattle.base_finite.proofs.Laws.{by_bool}
+use Rattle.base_nodeset.specs.declared.NodeSet.{NodeSet}
 use Rattle.graph.specs.Graph.{Graph, own}
 use Rattle.graph.specs.Order.{Choice, adding}
 use Rattle.theory_edges.proofs.Ends.{leaf_below}
@@ -20,7 +21,7 @@ use Rattle.base_tables.specs.declared.trees.Trees.{Trees}
 use Rattle.solve_reduce.specs.Reduced.{Reduced}
 use Rattle.theory_walk.specs.Walk.{Decision, first, graph_at, Valid}
 use Rattle.theory_walk.proofs.Decisions.{graph_nodes, graph_own, graph_root, graph_leaf, graph_shaped, few_decisions, Last, valid_popped}
-use Rattle.solve_levels.specs.Decisions.{upper_at, lower_at, decision, decisions, reached, Noted, Room}
+use Rattle.solve_levels.specs.Decisions.{Trail, upper_at, lower_at, decision, decisions, reached, Noted, Room}
 use Rattle.solve_levels.specs.Levels.{Reduction}
 use Rattle.solve_levels.proofs.Tables.{decision_first, decisions_more, decisions_length, graph_more, valid_fewer}
 
@@ -28,27 +29,27 @@ pub choice_below : {g : Graph} {v a b : ℕ} → Shaped g → Choice g v a b →
 choice_below {g} {v} {a} {b} s c = (leaf_below g a (lower_leaf g s c), leaf_below g b (upper_leaf g s c))
 
 -- the reduced form, with as many nodes as the code counts
-pub reduction_at : {g : Graph} {n : ℕ} {sets : List ℕ} → n ≡ g.nodes → Reduction g sets → Reduced g n sets
+pub reduction_at : {g : Graph} {n : ℕ} {sets : List NodeSet} → n ≡ g.nodes → Reduction g sets → Reduced g n sets
 reduction_at {g} {n} {sets} e r = subst (λ (m : ℕ). Reduced g m sets) (sym e) r
 
-pub at_reduction : {g : Graph} {n : ℕ} {sets : List ℕ} → n ≡ g.nodes → Reduced g n sets → Reduction g sets
+pub at_reduction : {g : Graph} {n : ℕ} {sets : List NodeSet} → n ≡ g.nodes → Reduced g n sets → Reduction g sets
 at_reduction {g} {n} {sets} e r = subst (λ (m : ℕ). Reduced g m sets) e r
 
 -- an edge added
 
-pub edge_added : {g : Graph} (t : Trees) (owners : List ℕ) (upper lower : ℕ) {sets sets' : List ℕ} → Fits g t owners → lower < t.n → Fresh g upper (own g lower)
-    → (Fits g t owners → Fresh g upper (get_or owners lower 0) → Reduced g t.n sets → Reduced (adding g upper (get_or owners lower 0)) t.n sets')
+pub edge_added : {g : Graph} (t : Trees) (upper lower : ℕ) {sets sets' : List NodeSet} → Fits g t → lower < t.n → Fresh g upper (own g lower)
+    → (Fits g t → Fresh g upper (get_or t.owner lower 0) → Reduced g t.n sets → Reduced (adding g upper (get_or t.owner lower 0)) t.n sets')
     → Reduction g sets → Reduction (adding g upper (own g lower)) sets'
 unfolding adding
-edge_added {g} t owners upper lower {sets} {sets'} f hl new step r =
-    let is : get_or owners lower 0 ≡ own g lower = f.owners_are lower hl in
-    let x : Reduced (adding g upper (get_or owners lower 0)) t.n sets' = step f (subst (λ (z : ℕ). Fresh g upper z) (sym is) new) (reduction_at f.trees.nodes r) in
+edge_added {g} t upper lower {sets} {sets'} f hl new step r =
+    let is : get_or t.owner lower 0 ≡ own g lower = f.owners_are lower hl in
+    let x : Reduced (adding g upper (get_or t.owner lower 0)) t.n sets' = step f (subst (λ (z : ℕ). Fresh g upper z) (sym is) new) (reduction_at f.trees.nodes r) in
     at_reduction f.trees.nodes (subst (λ (z : ℕ). Reduced (adding g upper z) t.n sets') is x)
 
 -- the graph at the decisions
 
-pub fits_in : {g : Graph} (ds : List Decision) (t : Trees) (owners : List ℕ) → Shaped (graph_at g ds) → Fits g t owners → Fits (graph_at g ds) t owners
-fits_in {g} ds t owners s f =
+pub fits_in : {g : Graph} (ds : List Decision) (t : Trees) → Shaped (graph_at g ds) → Fits g t → Fits (graph_at g ds) t
+fits_in {g} ds t s f =
     record {
       shaped = s;
       trees = record {
@@ -67,17 +68,17 @@ half_fresh h s {v} u l c =
     (λ (t : ltb u l ≡ true). first_fresh h s {v = v} (rw t at c))
     (λ (t : ltb u l ≡ false). second_fresh h s {v = v} (rw t at c))
 
-module _ (g : Graph) (t : Trees) (owners trail : List ℕ) (f : Fits g t owners) where
+module _ (g : Graph) (t : Trees) (trail : Trail) (f : Fits g t) where
   pub same_nodes : (k : ℕ) → t.n ≡ (reached g trail k).nodes
   same_nodes k = f.trees.nodes ∙ sym (graph_nodes g (decisions trail k))
 
   -- one edge more
-  pub edge_taken : (k : ℕ) {sets sets' : List ℕ} → Shaped (reached g trail k) → lower_at trail k < t.n → Fresh (reached g trail k) (upper_at trail k) (own (reached g trail k) (lower_at trail k))
-      → (Fits (reached g trail k) t owners → Fresh (reached g trail k) (upper_at trail k) (get_or owners (lower_at trail k) 0) → Reduced (reached g trail k) t.n sets
-      → Reduced (adding (reached g trail k) (upper_at trail k) (get_or owners (lower_at trail k) 0)) t.n sets')
+  pub edge_taken : (k : ℕ) {sets sets' : List NodeSet} → Shaped (reached g trail k) → lower_at trail k < t.n → Fresh (reached g trail k) (upper_at trail k) (own (reached g trail k) (lower_at trail k))
+      → (Fits (reached g trail k) t → Fresh (reached g trail k) (upper_at trail k) (get_or t.owner (lower_at trail k) 0) → Reduced (reached g trail k) t.n sets
+      → Reduced (adding (reached g trail k) (upper_at trail k) (get_or t.owner (lower_at trail k) 0)) t.n sets')
       → Reduction (reached g trail k) sets → Reduction (reached g trail (k + 1)) sets'
   edge_taken k s hl new step r =
-      rw (graph_more trail g k) (edge_added t owners (upper_at trail k) (lower_at trail k) (fits_in (decisions trail k) t owners s f) hl new step r)
+      rw (graph_more trail g k) (edge_added t (upper_at trail k) (lower_at trail k) (fits_in (decisions trail k) t s f) hl new step r)
 
   decision_below : (k : ℕ) → Valid g (decisions trail (k + 1)) → (upper_at trail k < t.n) × (lower_at trail k < t.n)
   unfolding decision

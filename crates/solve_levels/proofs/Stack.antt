@@ -7,63 +7,65 @@ use mathlib.Core.Logic.{◌⊎◌, inl, inr, ⊎_elim}
 use native.Mathlib.Nat.{mul-le-mul_left}
 use native.Mathlib.Omega.{arith}
 use lib.Dec.{eqb, ltb}
-use lib.ListN.{length, get_or, set, take, drop, length-drop, take-append-drop}
-use lib.Seq.{get_or-set_same, get_or-set_other, get_or-take, get_or-drop, ext_get_or, length-take-le, take-append-le, drop-append-le, drop-drop, take_at, drop_at}
+use lib.ListN.{length, get_or, take, drop, length-drop, take-append-drop}
+use lib.Seq.{get_or-take, get_or-drop, ext_get_or, length-take-le, take-append-le, drop-append-le, drop-drop, take_at, drop_at}
 use borrow.Author.Tests.{eqb-true, eqb-false, ltb-true, ltb-false}
 use borrow.Rule.Slice.PartMut.{mid_of, post_of, put_mid, same_len_mid, drop_put}
 use Rattle.base_finite.proofs.Laws.{by_bool}
+use Rattle.base_nodeset.specs.declared.NodeSet.{NodeSet}
+use Rattle.std.specs.List.{CopiedTo, SameBelow, SameFrom}
 use Rattle.graph.specs.Graph.{Graph, own}
+use Rattle.base_tables.specs.Rows.{nothing}
 use Rattle.theory_walk.specs.Walk.{Decision, graph_at}
 use Rattle.theory_walk.proofs.Decisions.{graph_own}
 use Rattle.solve_below.specs.Below.{Fragments}
 use Rattle.solve_reduce.specs.Reduced.{wide}
 use Rattle.solve_below.proofs.Roots.{fragments_same}
-use Rattle.solve_levels.specs.Decisions.{upper_at, lower_at, decisions, opens, reached, Kept}
-use Rattle.solve_levels.specs.Levels.{Reduction, Stack, state, Matches, Ready, Copied}
+use Rattle.solve_levels.specs.Decisions.{Trail, upper_at, lower_at, decisions, opens, reached, Kept}
+use Rattle.solve_levels.specs.Levels.{Reduction, Stack, state, Matches, Ready}
 use Rattle.solve_levels.specs.declared.Level.{Level}
-use Rattle.solve_levels.proofs.Tables.{decisions_same, reached_none, opens_none, opens_first, opens_second, opens_within, opens_before, opens_same}
+use Rattle.solve_levels.proofs.Tables.{kept_upper, kept_lower, decisions_same, reached_none, opens_none, opens_first, opens_second, opens_within, opens_before, opens_same}
 
 -- the law of products: a slot ends where the next one begins, or before
 pub slot_ends : (w i j : ℕ) → i < j → w * i + w ≤ w * j
 slot_ends w i j h = let next : i + 1 ≤ j = omega arith in omega (arith, mul-le-mul_left w next)
 
--- how wide a slot is at most, and what all of them take
-pub wide_most : (n : ℕ) → n ≤ 128 → wide n ≤ 258
+-- how wide a slot is at most
+pub wide_most : (n : ℕ) → n ≤ 128 → wide n ≤ 129
 wide_most n h = omega arith
 
-pub stack_large : (n : ℕ) → n ≤ 128 → wide n * 34 ≤ 8772
-stack_large n h = omega arith
+-- the sets from `to` on are those from `from` on, and the others are as before
+pub record Copied (from to k : ℕ) (old new : List NodeSet) : Type 0 where
+  pub there : (i : ℕ) → i < k → get_or new (to + i) nothing ≡ get_or old (from + i) nothing
+  pub elsewhere : (j : ℕ) → (j < to) ⊎ (to + k ≤ j) → get_or new j nothing ≡ get_or old j nothing
 
-pub stack_small : (n : ℕ) → n ≤ 32 → wide n * 34 ≤ 2244
-stack_small n h = omega arith
-
--- slots of w words
+-- slots of w sets
 
 all_of_it : (a w : ℕ) → a + w - a ≡ w
 all_of_it a w = omega arith
 
-abbrev part : ℕ → ℕ → List ℕ → List ℕ
+abbrev part : ℕ → ℕ → List NodeSet → List NodeSet
 part w i states = take w (drop (w * i) states)
 
 module _ (w : ℕ) where
-  module _ (states : List ℕ) (long : w * 34 ≤ length states) (i : ℕ) (some : i ≤ 33) where
+  module _ (states : List NodeSet) (long : w * 34 ≤ length states) (i : ℕ) (some : i ≤ 33) where
     part_long : length (part w i states) ≡ w
     part_long = length-take-le w (drop (w * i) states) (omega (arith, long, length-drop (w * i) states, slot_ends w i 34 (omega arith)))
 
-    part_word : (k : ℕ) → k < w → get_or (part w i states) k 0 ≡ get_or states (w * i + k) 0
-    part_word k h = get_or-take w (drop (w * i) states) k 0 h ∙ get_or-drop (w * i) states k 0
+    part_set : (k : ℕ) → k < w → get_or (part w i states) k nothing ≡ get_or states (w * i + k) nothing
+    part_set k h = get_or-take w (drop (w * i) states) k nothing h ∙ get_or-drop (w * i) states k nothing
 
-  -- the same words at another slot, or in other states
-  same_part : (i j : ℕ) → i ≤ 33 → j ≤ 33 → (states states' : List ℕ) → w * 34 ≤ length states → w * 34 ≤ length states'
-      → ((k : ℕ) → k < w → get_or states' (w * j + k) 0 ≡ get_or states (w * i + k) 0) → part w j states' ≡ part w i states
+  -- the same sets at another slot, or in other states
+  same_part : (i j : ℕ) → i ≤ 33 → j ≤ 33 → (states states' : List NodeSet) → w * 34 ≤ length states → w * 34 ≤ length states'
+      → ((k : ℕ) → k < w → get_or states' (w * j + k) nothing ≡ get_or states (w * i + k) nothing) → part w j states' ≡ part w i states
   same_part i j hi hj states states' long long' words =
       let full = part_long states' long' j hj in
-      ext_get_or 0 (part w j states') (part w i states) (full ∙ sym (part_long states long i hi)) (λ k h.
+      ext_get_or nothing (part w j states') (part w i states) (full ∙ sym (part_long states long i hi)) (λ k h.
       let less : k < w = omega (arith, full) in
-      part_word states' long' j hj k less ∙ words k less ∙ sym (part_word states long i hi k less))
+      part_set states' long' j hj k less ∙ words k less ∙ sym (part_set states long i hi k less))
 
   -- a slot copied, and those that stay
-  module _ (from to : ℕ) {states states' : List ℕ} (hf : from ≤ 33) (ht : to ≤ 33) (long : w * 34 ≤ length states) (as_long : length states' ≡ length states) (c : Copied (w * from) (w * to) w states states') where
+  module _ (from to : ℕ) {states states' : List NodeSet} (hf : from ≤ 33) (ht : to ≤ 33) (long : w * 34 ≤ length states) (as_long : length states' ≡ length states) (c : Copied (w * from) (w * to) w states states') where
     copied_there : part w to states' ≡ part w from states
     copied_there = same_part from to hf ht states states' long (omega (arith, as_long)) (λ k l. c.there k l)
 
@@ -82,8 +84,8 @@ module _ (w : ℕ) where
             (λ (t : eqb i to ≡ false). let d : i ≡ to → ⊥ = eqb-false i to t in omega arith)
 
   -- a slot lent and put back
-  module _ (j : ℕ) (states new : List ℕ) (long : w * 34 ≤ length states) (some : j ≤ 33) (full : length new ≡ w) where
-    abbrev put : List ℕ
+  module _ (j : ℕ) (states new : List NodeSet) (long : w * 34 ≤ length states) (some : j ≤ 33) (full : length new ≡ w) where
+    abbrev put : List NodeSet
     put = put_mid (w * j) w states new
 
     ends : w * j + w ≤ w * 34
@@ -97,14 +99,14 @@ module _ (w : ℕ) where
 
     put_there : part w j put ≡ new
     put_there =
-        let rest : List ℕ = post_of (w * j) w states in
-        ap (λ (l : List ℕ). take w l) (drop_at (take (w * j) states) (new ++ rest) (w * j) front)
+        let rest : List NodeSet = post_of (w * j) w states in
+        ap (λ (l : List NodeSet). take w l) (drop_at (take (w * j) states) (new ++ rest) (w * j) front)
         ∙ take_at new rest w full
 
-    part_front : (rest : List ℕ) (i : ℕ) → i < j → part w i (take (w * j) states ++ rest) ≡ part w i (take (w * j) states)
+    part_front : (rest : List NodeSet) (i : ℕ) → i < j → part w i (take (w * j) states ++ rest) ≡ part w i (take (w * j) states)
     part_front rest i h =
         let before = slot_ends w i j h in
-        ap (λ (l : List ℕ). take w l) (drop-append-le (w * i) (take (w * j) states) rest (omega (arith, front, before)))
+        ap (λ (l : List NodeSet). take w l) (drop-append-le (w * i) (take (w * j) states) rest (omega (arith, front, before)))
         ∙ take-append-le w (drop (w * i) (take (w * j) states)) rest (omega (arith, front, before, length-drop (w * i) (take (w * j) states)))
 
     put_before : (i : ℕ) → i < j → part w i put ≡ part w i states
@@ -122,10 +124,10 @@ module _ (w : ℕ) where
     put_after i h =
         let end : ℕ = w * j + w in
         let at : end + (w * i - end) ≡ w * i = omega (arith, slot_ends w j i h) in
-        ap (λ (l : List ℕ). take w l)
+        ap (λ (l : List NodeSet). take w l)
         (ap (λ (k : ℕ). drop k put) (sym at)
         ∙ sym (drop-drop (w * i - end) end put)
-        ∙ ap (λ (l : List ℕ). drop (w * i - end) l) rest_same
+        ∙ ap (λ (l : List NodeSet). drop (w * i - end) l) rest_same
         ∙ drop-drop (w * i - end) end states
         ∙ ap (λ (k : ℕ). drop k states) at)
 
@@ -140,43 +142,21 @@ module _ (w : ℕ) where
 
 -- a slot as the code lends it, and as it comes back
 
-pub lent_state : (n w from i : ℕ) (states : List ℕ) → w ≡ wide n → from ≡ wide n * i → mid_of from (from + w - from) states ≡ state n i states
+pub lent_state : (n w from i : ℕ) (states : List NodeSet) → w ≡ wide n → from ≡ wide n * i → mid_of from (from + w - from) states ≡ state n i states
 lent_state n w from i states is at =
     ap (λ (k : ℕ). mid_of from k states) (all_of_it from w ∙ is) ∙ ap (λ (k : ℕ). mid_of k (wide n) states) at
 
-put_back : (n w from i : ℕ) (states new : List ℕ) → w ≡ wide n → from ≡ wide n * i → put_mid from (from + w - from) states new ≡ put_mid (wide n * i) (wide n) states new
+put_back : (n w from i : ℕ) (states new : List NodeSet) → w ≡ wide n → from ≡ wide n * i → put_mid from (from + w - from) states new ≡ put_mid (wide n * i) (wide n) states new
 put_back n w from i states new is at =
     ap (λ (k : ℕ). put_mid from k states new) (all_of_it from w ∙ is) ∙ ap (λ (k : ℕ). put_mid k (wide n) states new) at
 
--- words copied one by one
-
-pub copied_none : (from to : ℕ) (words : List ℕ) → Copied from to 0 words words
-copied_none from to words = record { there = λ i h. absurd (omega arith); elsewhere = λ j h. refl }
-
--- the next word is as it was
-pub copied_read : (from to k i : ℕ) (old words : List ℕ) → (from + k ≤ to) ⊎ (to + k ≤ from) → i < k → Copied from to i old words → get_or words (from + i) 0 ≡ get_or old (from + i) 0
-copied_read from to k i old words free h c =
-    c.elsewhere (from + i) (⊎_elim (λ (l : from + k ≤ to). inl (omega arith)) (λ (l : to + k ≤ from). inr (omega arith)) free)
-
-pub copied_more : (from to i : ℕ) (old words : List ℕ) → to + i < length words → get_or words (from + i) 0 ≡ get_or old (from + i) 0 → Copied from to i old words → Copied from to (i + 1) old (set words (to + i) (get_or words (from + i) 0))
-copied_more from to i old words h is c =
+-- a part copied, as the library says it
+pub copied_part : (from end to w : ℕ) {old new : List NodeSet} → end ≡ from + w → CopiedTo old new from to (end - from) → SameBelow old new to → SameFrom old new (to + (end - from)) → Copied from to w old new
+copied_part from end to w {old} is there below after =
     record {
-      there = λ j l.
-          by_bool (eqb j i)
-          (λ (e : eqb j i ≡ true). rw (eqb-true j i e) (get_or-set_same words (to + i) (get_or words (from + i) 0) 0 h ∙ is))
-          (λ (e : eqb j i ≡ false).
-          let other : j ≡ i → ⊥ = eqb-false j i e in
-          get_or-set_other words (to + i) (to + j) (get_or words (from + i) 0) 0 (λ q. other (omega arith)) ∙ c.there j (less j other l));
-      elsewhere = λ j l.
-          get_or-set_other words (to + i) j (get_or words (from + i) 0) 0 (⊎_elim (λ (b : j < to). λ e. omega arith) (λ (b : to + (i + 1) ≤ j). λ e. omega arith) l)
-          ∙ c.elsewhere j (⊎_elim (λ (b : j < to). inl b) (λ (b : to + (i + 1) ≤ j). inr (omega arith)) l);
+      there = λ i h. let same : from + (to + i - to) ≡ from + i = omega arith in there (to + i) nothing (omega arith) (omega (arith, is)) ∙ ap (λ (k : ℕ). get_or old k nothing) same;
+      elsewhere = λ j l. ⊎_elim (λ (b : j < to). below j nothing b) (λ (b : to + w ≤ j). after j nothing (omega (arith, is))) l;
     }
-  where
-    less : (j : ℕ) → (j ≡ i → ⊥) → j < i + 1 → j < i
-    less j other l =
-        by_bool (ltb j i)
-        (λ (t : ltb j i ≡ true). ltb-true j i t)
-        (λ (t : ltb j i ≡ false). absurd (other (omega (arith, ltb-false j i t))))
 
 -- levels that are near have slots of their own
 pub apart : (i d : ℕ) → i < d → d < i + 32 → i % 32 ≡ d % 32 → ⊥
@@ -185,35 +165,27 @@ apart i d h l e = omega arith
 pub slot_some : (i : ℕ) → i % 32 ≤ 33
 slot_some i = omega arith
 
-pub near_slots : (n d w from to : ℕ) → w ≡ wide n → from ≡ wide n * (d % 32) → to ≡ wide n * ((d + 1) % 32) → (from + w ≤ to) ⊎ (to + w ≤ from)
-near_slots n d w from to is ef et =
-    by_bool (ltb (d % 32) ((d + 1) % 32))
-    (λ (t : ltb (d % 32) ((d + 1) % 32) ≡ true). inl (omega (arith, slot_ends (wide n) (d % 32) ((d + 1) % 32) (ltb-true (d % 32) ((d + 1) % 32) t))))
-    (λ (t : ltb (d % 32) ((d + 1) % 32) ≡ false).
-    let less : (d + 1) % 32 < d % 32 = omega (arith, ltb-false (d % 32) ((d + 1) % 32) t) in
-    inr (omega (arith, slot_ends (wide n) ((d + 1) % 32) (d % 32) less)))
-
 -- what the code has of a walk of a graph with n nodes
 
-pub stack_here : {g : Graph} {trail states : List ℕ} {at : Level} (n : ℕ) → n ≡ g.nodes → Matches g trail states at → Stack n states
+pub stack_here : {g : Graph} {trail : Trail} {states : List NodeSet} {at : Level} (n : ℕ) → n ≡ g.nodes → Matches g trail states at → Stack n states
 stack_here {states = states} n same m = subst (λ (x : ℕ). Stack x states) (sym same) m.long
 
-pub fragments_here : {g : Graph} {trail states : List ℕ} {at : Level} (n : ℕ) → n ≡ g.nodes → (k : ℕ) → Matches g trail states at → Fragments n (own (reached g trail k)) (state n 33 states)
+pub fragments_here : {g : Graph} {trail : Trail} {states : List NodeSet} {at : Level} (n : ℕ) → n ≡ g.nodes → (k : ℕ) → Matches g trail states at → Fragments n (own (reached g trail k)) (state n 33 states)
 fragments_here {g} {trail} {states} n same k m =
     fragments_same n (own g) (own (reached g trail k)) (state n 33 states) (λ v h. graph_own g (decisions trail k) v)
     (subst (λ (x : ℕ). Fragments x (own g) (state x 33 states)) (sym same) m.fragments)
 
-pub open_within : {g : Graph} {trail states : List ℕ} {at : Level} → Matches g trail states at → at.open ≤ at.depth
+pub open_within : {g : Graph} {trail : Trail} {states : List NodeSet} {at : Level} → Matches g trail states at → at.opened ≤ at.depth
 open_within {trail = trail} {at = at} m = omega (arith, m.open_is, opens_within trail at.depth)
 
-pub level_here : {g : Graph} {trail states : List ℕ} {at : Level} (n : ℕ) → n ≡ g.nodes → Matches g trail states at → at.kept ≤ at.open → Reduction (reached g trail at.depth) (state n (at.open % 32) states)
+pub level_here : {g : Graph} {trail : Trail} {states : List NodeSet} {at : Level} (n : ℕ) → n ≡ g.nodes → Matches g trail states at → at.kept ≤ at.opened → Reduction (reached g trail at.depth) (state n (at.opened % 32) states)
 level_here {g} {trail} {states} {at} n same m here =
-    subst (λ (x : ℕ). Reduction (reached g trail at.depth) (state x (at.open % 32) states)) (sym same)
+    subst (λ (x : ℕ). Reduction (reached g trail at.depth) (state x (at.opened % 32) states)) (sym same)
     (subst (λ (o : ℕ). Reduction (reached g trail at.depth) (state g.nodes (o % 32) states)) (sym m.open_is) (m.level at.depth (omega arith) (inl refl) (omega (arith, m.open_is))))
 
 -- ready for one level more, where the walk turns here no more
-pub ready_same : {g : Graph} {trail states : List ℕ} {at : Level} (next : Level) → Matches g trail states at → at.kept ≤ at.open → lower_at trail at.depth ≤ upper_at trail at.depth
-    → next.depth ≡ at.depth + 1 → next.open ≡ at.open → next.kept ≡ at.kept → Ready g trail states at next
+pub ready_same : {g : Graph} {trail : Trail} {states : List NodeSet} {at : Level} (next : Level) → Matches g trail states at → at.kept ≤ at.opened → lower_at trail at.depth ≤ upper_at trail at.depth
+    → next.depth ≡ at.depth + 1 → next.opened ≡ at.opened → next.kept ≡ at.kept → Ready g trail states at next
 ready_same {g} {trail} {states} {at} next m here second deeper same kept =
     record {
       long = m.long;
@@ -226,64 +198,64 @@ ready_same {g} {trail} {states} {at} next m here second deeper same kept =
     }
 
 -- or where it may
-module _ {g : Graph} {trail states copy : List ℕ} {at : Level} (m : Matches g trail states at) (here : at.kept ≤ at.open) (as_long : length copy ≡ length states)
-    (c : Copied (wide g.nodes * (at.open % 32)) (wide g.nodes * ((at.open + 1) % 32)) (wide g.nodes) states copy) where
+module _ {g : Graph} {trail : Trail} {states copy : List NodeSet} {at : Level} (m : Matches g trail states at) (here : at.kept ≤ at.opened) (as_long : length copy ≡ length states)
+    (c : Copied (wide g.nodes * (at.opened % 32)) (wide g.nodes * ((at.opened + 1) % 32)) (wide g.nodes) states copy) where
   abbrev w : ℕ
   w = wide g.nodes
 
   abbrev j : ℕ
-  j = (at.open + 1) % 32
+  j = (at.opened + 1) % 32
 
   stays : (i : ℕ) → i ≤ 33 → (i ≡ j → ⊥) → state g.nodes i copy ≡ state g.nodes i states
-  stays i hi other = copied_other w (at.open % 32) j (slot_some at.open) (slot_some (at.open + 1)) m.long as_long c i hi other
+  stays i hi other = copied_other w (at.opened % 32) j (slot_some at.opened) (slot_some (at.opened + 1)) m.long as_long c i hi other
 
   copied_level : Reduction (reached g trail at.depth) (state g.nodes j copy)
   copied_level =
-      subst (λ (s : List ℕ). Reduction (reached g trail at.depth) s)
-      (sym (copied_there w (at.open % 32) j (slot_some at.open) (slot_some (at.open + 1)) m.long as_long c)) (level_here g.nodes refl m here)
+      subst (λ (s : List NodeSet). Reduction (reached g trail at.depth) s)
+      (sym (copied_there w (at.opened % 32) j (slot_some at.opened) (slot_some (at.opened + 1)) m.long as_long c)) (level_here g.nodes refl m here)
 
-  ready_deeper : (next : Level) → upper_at trail at.depth < lower_at trail at.depth → next.depth ≡ at.depth + 1 → next.open ≡ at.open + 1 → at.kept ≤ next.kept → at.open + 1 < next.kept + 32 → Ready g trail copy at next
+  ready_deeper : (next : Level) → upper_at trail at.depth < lower_at trail at.depth → next.depth ≡ at.depth + 1 → next.opened ≡ at.opened + 1 → at.kept ≤ next.kept → at.opened + 1 < next.kept + 32 → Ready g trail copy at next
   ready_deeper next first deeper one kept near =
-      let many : opens trail (at.depth + 1) ≡ at.open + 1 = omega (arith, opens_first trail at.depth first, m.open_is) in
+      let many : opens trail (at.depth + 1) ≡ at.opened + 1 = omega (arith, opens_first trail at.depth first, m.open_is) in
       record {
         long = omega (arith, m.long, as_long);
-        outset = subst (λ (s : List ℕ). Reduction g s) (sym (stays 32 (omega arith) (λ e. omega arith))) m.outset;
-        fragments = subst (λ (s : List ℕ). Fragments g.nodes (own g) s) (sym (stays 33 (omega arith) (λ e. omega arith))) m.fragments;
+        outset = subst (λ (s : List NodeSet). Reduction g s) (sym (stays 32 (omega arith) (λ e. omega arith))) m.outset;
+        fragments = subst (λ (s : List NodeSet). Fragments g.nodes (own g) s) (sym (stays 33 (omega arith) (λ e. omega arith))) m.fragments;
         open_is = one ∙ sym many ∙ ap (opens trail) (sym deeper);
         near = omega arith;
         here = subst (λ (o : ℕ). Reduction (reached g trail at.depth) (state g.nodes (o % 32) copy)) (sym one) copied_level;
         level = λ i h less low.
-            let before : opens trail i < at.open + 1 = omega (arith, opens_before trail i (at.depth + 1) (omega arith) less, many) in
-            subst (λ (s : List ℕ). Reduction (reached g trail i) s) (sym (stays (opens trail i % 32) (slot_some (opens trail i)) (apart (opens trail i) (at.open + 1) before (omega arith)))) (m.level i h (inr less) (omega arith));
+            let before : opens trail i < at.opened + 1 = omega (arith, opens_before trail i (at.depth + 1) (omega arith) less, many) in
+            subst (λ (s : List NodeSet). Reduction (reached g trail i) s) (sym (stays (opens trail i % 32) (slot_some (opens trail i)) (apart (opens trail i) (at.opened + 1) before (omega arith)))) (m.level i h (inr less) (omega arith));
       }
 
 -- the same, as the code copies
-pub ready_copied : {g : Graph} {trail states copy : List ℕ} {at : Level} (n : ℕ) → n ≡ g.nodes → Matches g trail states at → at.kept ≤ at.open → length copy ≡ length states
-    → (w from to : ℕ) → w ≡ wide n → from ≡ wide n * (at.open % 32) → to ≡ wide n * ((at.open + 1) % 32) → Copied from to w states copy
-    → (next : Level) → upper_at trail at.depth < lower_at trail at.depth → next.depth ≡ at.depth + 1 → next.open ≡ at.open + 1 → at.kept ≤ next.kept → at.open + 1 < next.kept + 32
+pub ready_copied : {g : Graph} {trail : Trail} {states copy : List NodeSet} {at : Level} (n : ℕ) → n ≡ g.nodes → Matches g trail states at → at.kept ≤ at.opened → length copy ≡ length states
+    → (w from to : ℕ) → w ≡ wide n → from ≡ wide n * (at.opened % 32) → to ≡ wide n * ((at.opened + 1) % 32) → Copied from to w states copy
+    → (next : Level) → upper_at trail at.depth < lower_at trail at.depth → next.depth ≡ at.depth + 1 → next.opened ≡ at.opened + 1 → at.kept ≤ next.kept → at.opened + 1 < next.kept + 32
     → Ready g trail copy at next
 ready_copied {g} {trail} {states} {copy} {at} n same m here as_long w from to is ef et c next first deeper one kept near =
     let N : ℕ = g.nodes in
-    let j : ℕ = (at.open + 1) % 32 in
+    let j : ℕ = (at.opened + 1) % 32 in
     let is' : w ≡ wide N = is ∙ ap wide same in
-    let ef' : from ≡ wide N * (at.open % 32) = ef ∙ ap (λ (k : ℕ). wide k * (at.open % 32)) same in
+    let ef' : from ≡ wide N * (at.opened % 32) = ef ∙ ap (λ (k : ℕ). wide k * (at.opened % 32)) same in
     let et' : to ≡ wide N * j = et ∙ ap (λ (k : ℕ). wide k * j) same in
-    let c' : Copied (wide N * (at.open % 32)) (wide N * j) (wide N) states copy = rw (is', ef', et') at c in
+    let c' : Copied (wide N * (at.opened % 32)) (wide N * j) (wide N) states copy = rw (is', ef', et') at c in
     ready_deeper m here as_long c' next first deeper one kept near
 
 -- one level more
-module _ {g : Graph} {trail states : List ℕ} {at next : Level} (m : Ready g trail states at next) (deeper : next.depth ≡ at.depth + 1) where
-  matches_deeper : (new : List ℕ) → length new ≡ wide g.nodes → Reduction (reached g trail (at.depth + 1)) new
-      → Matches g trail (put_mid (wide g.nodes * (next.open % 32)) (wide g.nodes) states new) next
+module _ {g : Graph} {trail : Trail} {states : List NodeSet} {at next : Level} (m : Ready g trail states at next) (deeper : next.depth ≡ at.depth + 1) where
+  matches_deeper : (new : List NodeSet) → length new ≡ wide g.nodes → Reduction (reached g trail (at.depth + 1)) new
+      → Matches g trail (put_mid (wide g.nodes * (next.opened % 32)) (wide g.nodes) states new) next
   matches_deeper new full r =
       let w : ℕ = wide g.nodes in
-      let j : ℕ = next.open % 32 in
+      let j : ℕ = next.opened % 32 in
       let others : (i : ℕ) → (i ≡ j → ⊥) → state g.nodes i (put_mid (w * j) w states new) ≡ state g.nodes i states = λ i other.
-      put_other w j states new m.long (slot_some next.open) full i other in
+      put_other w j states new m.long (slot_some next.opened) full i other in
       record {
-        long = omega (arith, m.long, put_length w j states new m.long (slot_some next.open) full);
-        outset = subst (λ (s : List ℕ). Reduction g s) (sym (others 32 (λ e. omega arith))) m.outset;
-        fragments = subst (λ (s : List ℕ). Fragments g.nodes (own g) s) (sym (others 33 (λ e. omega arith))) m.fragments;
+        long = omega (arith, m.long, put_length w j states new m.long (slot_some next.opened) full);
+        outset = subst (λ (s : List NodeSet). Reduction g s) (sym (others 32 (λ e. omega arith))) m.outset;
+        fragments = subst (λ (s : List NodeSet). Fragments g.nodes (own g) s) (sym (others 33 (λ e. omega arith))) m.fragments;
         open_is = m.open_is;
         near = m.near;
         level = λ i h kind low.
@@ -291,34 +263,34 @@ module _ {g : Graph} {trail states : List ℕ} {at next : Level} (m : Ready g tr
             (λ (t : ltb i next.depth ≡ true).
             let less : i < next.depth = ltb-true i next.depth t in
             let first : upper_at trail i < lower_at trail i = ⊎_elim (λ (e : i ≡ next.depth). absurd (omega arith)) (λ (x : upper_at trail i < lower_at trail i). x) kind in
-            let before : opens trail i < next.open = omega (arith, opens_before trail i next.depth less first, m.open_is) in
-            subst (λ (s : List ℕ). Reduction (reached g trail i) s) (sym (others (opens trail i % 32) (apart (opens trail i) next.open before (omega (arith, m.near))))) (m.level i (omega arith) first low))
+            let before : opens trail i < next.opened = omega (arith, opens_before trail i next.depth less first, m.open_is) in
+            subst (λ (s : List NodeSet). Reduction (reached g trail i) s) (sym (others (opens trail i % 32) (apart (opens trail i) next.opened before (omega (arith, m.near))))) (m.level i (omega arith) first low))
             (λ (t : ltb i next.depth ≡ false).
             let is : at.depth + 1 ≡ i = omega (arith, ltb-false i next.depth t) in
-            let same : next.open ≡ opens trail i = m.open_is ∙ ap (opens trail) (deeper ∙ is) in
+            let same : next.opened ≡ opens trail i = m.open_is ∙ ap (opens trail) (deeper ∙ is) in
             subst (λ (o : ℕ). Reduction (reached g trail i) (state g.nodes (o % 32) (put_mid (w * j) w states new))) same
             (subst (λ (k : ℕ). Reduction (reached g trail k) (state g.nodes j (put_mid (w * j) w states new))) is
-            (subst (λ (s : List ℕ). Reduction (reached g trail (at.depth + 1)) s) (sym (put_there w j states new m.long (slot_some next.open) full)) r)));
+            (subst (λ (s : List NodeSet). Reduction (reached g trail (at.depth + 1)) s) (sym (put_there w j states new m.long (slot_some next.opened) full)) r)));
       }
 
 -- the same, as the code puts it: a state lent, changed and put back
-pub one_deeper : {g : Graph} {trail states : List ℕ} {at next : Level} (n : ℕ) → n ≡ g.nodes → Ready g trail states at next → next.depth ≡ at.depth + 1
-    → (w to : ℕ) → w ≡ wide n → to ≡ wide n * (next.open % 32) → (new : List ℕ) → length new ≡ length (mid_of to (to + w - to) states)
+pub one_deeper : {g : Graph} {trail : Trail} {states : List NodeSet} {at next : Level} (n : ℕ) → n ≡ g.nodes → Ready g trail states at next → next.depth ≡ at.depth + 1
+    → (w to : ℕ) → w ≡ wide n → to ≡ wide n * (next.opened % 32) → (new : List NodeSet) → length new ≡ length (mid_of to (to + w - to) states)
     → (Reduction (reached g trail at.depth) (mid_of to (to + w - to) states) → Reduction (reached g trail (at.depth + 1)) new)
     → Matches g trail (put_mid to (to + w - to) states new) next
 one_deeper {g} {trail} {states} {at} {next} n same m deeper w to is et new as_lent step =
     let N : ℕ = g.nodes in
-    let j : ℕ = next.open % 32 in
+    let j : ℕ = next.opened % 32 in
     let is' : w ≡ wide N = is ∙ ap wide same in
     let et' : to ≡ wide N * j = et ∙ ap (λ (k : ℕ). wide k * j) same in
     let lent : mid_of to (to + w - to) states ≡ state N j states = lent_state N w to j states is' et' in
-    let full : length new ≡ wide N = as_lent ∙ ap length lent ∙ part_long (wide N) states m.long j (slot_some next.open) in
-    let r = step (subst (λ (s : List ℕ). Reduction (reached g trail at.depth) s) (sym lent) m.here) in
-    subst (λ (l : List ℕ). Matches g trail l next) (sym (put_back N w to j states new is' et')) (matches_deeper m deeper new full r)
+    let full : length new ≡ wide N = as_lent ∙ ap length lent ∙ part_long (wide N) states m.long j (slot_some next.opened) in
+    let r = step (subst (λ (s : List NodeSet). Reduction (reached g trail at.depth) s) (sym lent) m.here) in
+    subst (λ (l : List NodeSet). Matches g trail l next) (sym (put_back N w to j states new is' et')) (matches_deeper m deeper new full r)
 
 -- at the outset
-pub matches_outset : {g : Graph} {trail states copy : List ℕ} (n : ℕ) → n ≡ g.nodes → Stack n states → Reduction g (state g.nodes 32 states) → Fragments g.nodes (own g) (state g.nodes 33 states) → length copy ≡ length states
-    → (w from : ℕ) → w ≡ wide n → from ≡ wide n * 32 → Copied from 0 w states copy → (next : Level) → next.depth ≡ 0 → next.open ≡ 0 → next.kept ≡ 0 → Matches g trail copy next
+pub matches_outset : {g : Graph} {trail : Trail} {states copy : List NodeSet} (n : ℕ) → n ≡ g.nodes → Stack n states → Reduction g (state g.nodes 32 states) → Fragments g.nodes (own g) (state g.nodes 33 states) → length copy ≡ length states
+    → (w from : ℕ) → w ≡ wide n → from ≡ wide n * 32 → Copied from 0 w states copy → (next : Level) → next.depth ≡ 0 → next.opened ≡ 0 → next.kept ≡ 0 → Matches g trail copy next
 matches_outset {g} {trail} {states} {copy} n same long r of as_long w from is ef c next d o k =
     let N : ℕ = g.nodes in
     let is' : w ≡ wide N = is ∙ ap wide same in
@@ -328,8 +300,8 @@ matches_outset {g} {trail} {states} {copy} n same long r of as_long w from is ef
     let long' : Stack N states = subst (λ (x : ℕ). Stack x states) same long in
     record {
       long = omega (arith, long', as_long);
-      outset = subst (λ (s : List ℕ). Reduction g s) (sym (copied_other (wide N) 32 0 (omega arith) (omega arith) long' as_long c' 32 (omega arith) (λ (e : ◌≡◌ {A = ℕ} 32 0). omega arith))) r;
-      fragments = subst (λ (s : List ℕ). Fragments N (own g) s) (sym (copied_other (wide N) 32 0 (omega arith) (omega arith) long' as_long c' 33 (omega arith) (λ (e : ◌≡◌ {A = ℕ} 33 0). omega arith))) of;
+      outset = subst (λ (s : List NodeSet). Reduction g s) (sym (copied_other (wide N) 32 0 (omega arith) (omega arith) long' as_long c' 32 (omega arith) (λ (e : ◌≡◌ {A = ℕ} 32 0). omega arith))) r;
+      fragments = subst (λ (s : List NodeSet). Fragments N (own g) s) (sym (copied_other (wide N) 32 0 (omega arith) (omega arith) long' as_long c' 33 (omega arith) (λ (e : ◌≡◌ {A = ℕ} 33 0). omega arith))) of;
       open_is = o ∙ sym (opens_none trail) ∙ ap (opens trail) (sym d);
       near = omega arith;
       level = λ i a kind low.
@@ -337,15 +309,15 @@ matches_outset {g} {trail} {states} {copy} n same long r of as_long w from is ef
           subst (λ (x : ℕ). Reduction (reached g trail x) (state N (opens trail x % 32) copy)) none
           (subst (λ (x : ℕ). Reduction (reached g trail 0) (state N (x % 32) copy)) (sym (opens_none trail))
           (subst (λ (h : Graph). Reduction h (state N 0 copy)) (sym (reached_none g trail))
-          (subst (λ (s : List ℕ). Reduction g s) (sym (copied_there (wide N) 32 0 (omega arith) (omega arith) long' as_long c')) r)));
+          (subst (λ (s : List NodeSet). Reduction g s) (sym (copied_there (wide N) 32 0 (omega arith) (omega arith) long' as_long c')) r)));
     }
 
 -- both made there, one after the other, and the state copied
-pub outset_made : {g : Graph} {trail new copy : List ℕ} (states table : List ℕ) (n : ℕ) → n ≡ g.nodes → Stack n states → (w from last : ℕ) → w ≡ wide n → from ≡ wide n * 32 → last ≡ wide n * 33
+pub outset_made : {g : Graph} {trail : Trail} {new copy : List NodeSet} (states table : List NodeSet) (n : ℕ) → n ≡ g.nodes → Stack n states → (w from last : ℕ) → w ≡ wide n → from ≡ wide n * 32 → last ≡ wide n * 33
     → length table ≡ length (mid_of last (last + w - last) states) → length new ≡ length (mid_of from (from + w - from) (put_mid last (last + w - last) states table))
     → Copied from 0 w (put_mid from (from + w - from) (put_mid last (last + w - last) states table) new) copy
     → length copy ≡ length (put_mid from (from + w - from) (put_mid last (last + w - last) states table) new) → Fragments n (own g) table → Reduction g new
-    → (next : Level) → next.depth ≡ 0 → next.open ≡ 0 → next.kept ≡ 0 → Matches g trail copy next
+    → (next : Level) → next.depth ≡ 0 → next.opened ≡ 0 → next.kept ≡ 0 → Matches g trail copy next
 outset_made {g} {trail} {new} {copy} states table n same long w from last is ef el table_lent new_lent c as_long of r next d o k =
     let N : ℕ = g.nodes in
     let W : ℕ = wide N in
@@ -353,25 +325,25 @@ outset_made {g} {trail} {new} {copy} states table n same long w from last is ef 
     let ef' : from ≡ W * 32 = ef ∙ ap (λ (x : ℕ). wide x * 32) same in
     let el' : last ≡ W * 33 = el ∙ ap (λ (x : ℕ). wide x * 33) same in
     let long' : Stack N states = subst (λ (x : ℕ). Stack x states) same long in
-    let first : List ℕ = put_mid (W * 33) W states table in
-    let made : List ℕ = put_mid (W * 32) W first new in
+    let first : List NodeSet = put_mid (W * 33) W states table in
+    let made : List NodeSet = put_mid (W * 32) W first new in
     let at_first : put_mid last (last + w - last) states table ≡ first = put_back N w last 33 states table is' el' in
     let at : put_mid from (from + w - from) (put_mid last (last + w - last) states table) new ≡ made =
-    ap (λ (l : List ℕ). put_mid from (from + w - from) l new) at_first ∙ put_back N w from 32 first new is' ef' in
+    ap (λ (l : List NodeSet). put_mid from (from + w - from) l new) at_first ∙ put_back N w from 32 first new is' ef' in
     let table_full : length table ≡ W = table_lent ∙ ap length (lent_state N w last 33 states is' el') ∙ part_long W states long' 33 (omega arith) in
     let first_long : Stack N first = omega (arith, long', put_length W 33 states table long' (omega arith) table_full) in
     let new_full : length new ≡ W =
-    new_lent ∙ ap (λ (l : List ℕ). length (mid_of from (from + w - from) l)) at_first ∙ ap length (lent_state N w from 32 first is' ef') ∙ part_long W first first_long 32 (omega arith) in
+    new_lent ∙ ap (λ (l : List NodeSet). length (mid_of from (from + w - from) l)) at_first ∙ ap length (lent_state N w from 32 first is' ef') ∙ part_long W first first_long 32 (omega arith) in
     let made_long : Stack N made = omega (arith, first_long, put_length W 32 first new first_long (omega arith) new_full) in
     let there : state N 33 made ≡ table =
     put_other W 32 first new first_long (omega arith) new_full 33 (λ (e : ◌≡◌ {A = ℕ} 33 32). omega arith) ∙ put_there W 33 states table long' (omega arith) table_full in
     matches_outset {g = g} {trail = trail} {states = made} {copy = copy} N refl made_long
-    (subst (λ (s : List ℕ). Reduction g s) (sym (put_there W 32 first new first_long (omega arith) new_full)) r)
-    (subst (λ (s : List ℕ). Fragments N (own g) s) (sym there) (subst (λ (x : ℕ). Fragments x (own g) table) same of))
-    (as_long ∙ ap length at) w from is' ef' (subst (λ (l : List ℕ). Copied from 0 w l copy) at c) next d o k
+    (subst (λ (s : List NodeSet). Reduction g s) (sym (put_there W 32 first new first_long (omega arith) new_full)) r)
+    (subst (λ (s : List NodeSet). Fragments N (own g) s) (sym there) (subst (λ (x : ℕ). Fragments x (own g) table) same of))
+    (as_long ∙ ap length at) w from is' ef' (subst (λ (l : List NodeSet). Copied from 0 w l copy) at c) next d o k
 
 -- other decisions from here on
-pub matches_kept : {g : Graph} {trail trail' states : List ℕ} {at : Level} → Kept at.depth trail trail' → Matches g trail states at → Matches g trail' states at
+pub matches_kept : {g : Graph} {trail trail' : Trail} {states : List NodeSet} {at : Level} → Kept at.depth trail trail' → Matches g trail states at → Matches g trail' states at
 matches_kept {g} {trail} {trail'} {states} {at} kept m =
     record {
       long = m.long;
@@ -396,12 +368,12 @@ matches_kept {g} {trail} {trail'} {states} {at} kept m =
         by_bool (ltb i at.depth)
         (λ (t : ltb i at.depth ≡ true).
         let less : i < at.depth = ltb-true i at.depth t in
-        ⊎_elim (λ (e : i ≡ at.depth). inl e) (λ (x : upper_at trail' i < lower_at trail' i). inr (omega (arith, x, kept.same (2 * i) (omega arith), kept.same (2 * i + 1) (omega arith)))) kind)
+        ⊎_elim (λ (e : i ≡ at.depth). inl e) (λ (x : upper_at trail' i < lower_at trail' i). inr (omega (arith, x, kept_upper kept i less, kept_lower kept i less))) kind)
         (λ (t : ltb i at.depth ≡ false). inl (omega (arith, ltb-false i at.depth t)))
 
 -- back to the last level where a choice is open
-pub matches_back : {g : Graph} {trail states : List ℕ} {at : Level} (next : Level) → Matches g trail states at → next.depth ≤ at.depth → upper_at trail next.depth < lower_at trail next.depth
-    → opens trail (next.depth + 1) ≡ at.open → next.open + 1 ≡ at.open → next.kept ≡ at.kept → Matches g trail states next
+pub matches_back : {g : Graph} {trail : Trail} {states : List NodeSet} {at : Level} (next : Level) → Matches g trail states at → next.depth ≤ at.depth → upper_at trail next.depth < lower_at trail next.depth
+    → opens trail (next.depth + 1) ≡ at.opened → next.opened + 1 ≡ at.opened → next.kept ≡ at.kept → Matches g trail states next
 matches_back {g} {trail} {states} {at} next m h first is one kept =
     record {
       long = m.long;

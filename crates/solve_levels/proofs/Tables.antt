@@ -1,12 +1,12 @@
 -- The table of decisions: one more entry, an entry written or turned, and what a decision adds.
-use Prim.Native.Nat.{ℕ, zero, suc, ◌+◌, ◌*◌, ◌≤◌, ◌<◌}
+use Prim.Native.Nat.{ℕ, zero, suc, ◌+◌, ◌≤◌, ◌<◌}
 use mathlib.Core.Path.{◌≡◌, refl, sym, ap, subst, ◌∙◌}
-use mathlib.Core.List.{List, [], ◌∷◌, ◌++◌}
+use mathlib.Core.List.{[], ◌∷◌, ◌++◌}
 use mathlib.Core.Bool.{true, false}
 use native.Mathlib.Numerals.{add-one}
 use native.Mathlib.Omega.{arith}
 use lib.Dec.{ltb}
-use lib.ListN.{length, get_or, set, length-append, length-set}
+use lib.ListN.{length, get_or, length-append, length-set}
 use lib.Seq.{get_or-set_same, get_or-set_other}
 use borrow.Author.Tests.{lt-ltb, le-ltb, ltb-true, ltb-false}
 use Rattle.base_finite.proofs.Laws.{by_bool}
@@ -14,7 +14,8 @@ use Rattle.graph.specs.Graph.{Graph, own}
 use Rattle.graph.specs.Order.{adding}
 use Rattle.theory_walk.specs.Walk.{first, second, half, graph_at, Valid}
 use Rattle.theory_walk.proofs.Decisions.{graph_pushed, valid_popped}
-use Rattle.solve_levels.specs.Decisions.{upper_at, lower_at, decision, decisions, opens, reached, Noted, Kept, written, turned}
+use Rattle.solve_levels.specs.declared.Decision.{Decision as Entry}
+use Rattle.solve_levels.specs.Decisions.{Trail, untaken, upper_at, lower_at, decision, decisions, opens, reached, Noted, Kept, written, turned}
 
 pub decision_first : (a b : ℕ) → a < b → decision a b ≡ first a b
 unfolding decision
@@ -32,11 +33,11 @@ half_edge g upper lower =
     (λ (e : ltb upper lower ≡ true). rw e)
     (λ (e : ltb upper lower ≡ false). rw e)
 
-pub reached_none : (g : Graph) (trail : List ℕ) → reached g trail 0 ≡ g
+pub reached_none : (g : Graph) (trail : Trail) → reached g trail 0 ≡ g
 unfolding decisions graph_at
 reached_none g trail = refl
 
-module _ (trail : List ℕ) where
+module _ (trail : Trail) where
   pub decisions_none : decisions trail 0 ≡ []
   unfolding decisions
   decisions_none = refl
@@ -68,15 +69,15 @@ module _ (trail : List ℕ) where
       (λ (e : ltb k i ≡ true). let same : i ≡ suc k = omega (arith, ltb-true k i e) in rw same x)
       (λ (e : ltb k i ≡ false). valid_fewer g i k (omega (arith, ltb-false k i e)) (valid_popped g (decisions trail k) (decision (upper_at trail k) (lower_at trail k)) x).before)
 
-pub decisions_same : (trail trail' : List ℕ) (k : ℕ) → ((i : ℕ) → i < 2 * k → get_or trail i 0 ≡ get_or trail' i 0) → decisions trail k ≡ decisions trail' k
+pub decisions_same : (trail trail' : Trail) (k : ℕ) → ((i : ℕ) → i < k → get_or trail i untaken ≡ get_or trail' i untaken) → decisions trail k ≡ decisions trail' k
 unfolding decisions
 decisions_same trail trail' zero f = refl
 decisions_same trail trail' (suc k) f =
-    rw (f (2 * k) (omega arith), f (2 * k + 1) (omega arith), decisions_same trail trail' k (λ i l. f i (omega arith)))
+    rw (ap (λ (e : Entry). e.upper) (f k (omega arith)), ap (λ (e : Entry). e.lower) (f k (omega arith)), decisions_same trail trail' k (λ i l. f i (omega arith)))
 
 -- how many are first halves
 
-module _ (trail : List ℕ) where
+module _ (trail : Trail) where
   pub opens_none : opens trail 0 ≡ 0
   unfolding opens
   opens_none = refl
@@ -122,33 +123,33 @@ module _ (trail : List ℕ) where
       let one : j + 1 ≡ suc j = add-one j in
       opens_seconds i j low (λ k a b. f k a (omega arith)) ∙ sym (opens_second j (f j low (omega arith))) ∙ ap (opens trail) one)
 
-pub opens_same : (trail trail' : List ℕ) (k : ℕ) → ((i : ℕ) → i < 2 * k → get_or trail i 0 ≡ get_or trail' i 0) → opens trail k ≡ opens trail' k
+pub opens_same : (trail trail' : Trail) (k : ℕ) → ((i : ℕ) → i < k → get_or trail i untaken ≡ get_or trail' i untaken) → opens trail k ≡ opens trail' k
 unfolding opens
 opens_same trail trail' zero f = refl
 opens_same trail trail' (suc k) f =
-    rw (f (2 * k) (omega arith), f (2 * k + 1) (omega arith), opens_same trail trail' k (λ i l. f i (omega arith)))
+    rw (ap (λ (e : Entry). e.upper) (f k (omega arith)), ap (λ (e : Entry). e.lower) (f k (omega arith)), opens_same trail trail' k (λ i l. f i (omega arith)))
 
-pub kept_decisions : {depth : ℕ} {trail trail' : List ℕ} → Kept depth trail trail' → decisions trail' depth ≡ decisions trail depth
+pub kept_decisions : {depth : ℕ} {trail trail' : Trail} → Kept depth trail trail' → decisions trail' depth ≡ decisions trail depth
 kept_decisions {depth} {trail} {trail'} kept = decisions_same trail' trail depth kept.same
 
 -- an entry written
 
-module _ (trail : List ℕ) (k upper lower : ℕ) where
-  pub written_length : length (written k upper lower trail) ≡ length trail
-  written_length = length-set (set trail (2 * k) upper) (2 * k + 1) lower ∙ length-set trail (2 * k) upper
+module _ (trail : Trail) (k upper lower : ℕ) where
+  abbrev entry : Entry
+  entry = record { upper = upper; lower = lower }
 
-  pub written_else : (i : ℕ) → (i ≡ 2 * k → ⊥) → (i ≡ 2 * k + 1 → ⊥) → get_or (written k upper lower trail) i 0 ≡ get_or trail i 0
-  written_else i even odd = get_or-set_other (set trail (2 * k) upper) (2 * k + 1) i lower 0 odd ∙ get_or-set_other trail (2 * k) i upper 0 even
+  pub written_length : length (written k upper lower trail) ≡ length trail
+  written_length = length-set trail k entry
 
   pub written_kept : Kept k trail (written k upper lower trail)
-  written_kept = record { same = λ i h. written_else i (λ e. omega arith) (λ e. omega arith) }
+  written_kept = record { same = λ i h. get_or-set_other trail k i entry untaken (λ e. omega arith) }
 
-  module _ (long : 2 * k + 1 < length trail) where
+  module _ (long : k < length trail) where
     pub written_upper : upper_at (written k upper lower trail) k ≡ upper
-    written_upper = get_or-set_other (set trail (2 * k) upper) (2 * k + 1) (2 * k) lower 0 (λ e. omega arith) ∙ get_or-set_same trail (2 * k) upper 0 (omega arith)
+    written_upper = ap (λ (e : Entry). e.upper) (get_or-set_same trail k entry untaken long)
 
     pub written_lower : lower_at (written k upper lower trail) k ≡ lower
-    written_lower = get_or-set_same (set trail (2 * k) upper) (2 * k + 1) lower 0 (omega (arith, length-set trail (2 * k) upper))
+    written_lower = ap (λ (e : Entry). e.lower) (get_or-set_same trail k entry untaken long)
 
     pub decisions_pushed : decisions (written k upper lower trail) (k + 1) ≡ decisions trail k ++ (decision upper lower ∷ [])
     decisions_pushed =
@@ -157,19 +158,25 @@ module _ (trail : List ℕ) (k upper lower : ℕ) where
 
 -- entries that stay
 
-pub kept_all : (depth : ℕ) (trail : List ℕ) → Kept depth trail trail
+pub kept_all : (depth : ℕ) (trail : Trail) → Kept depth trail trail
 kept_all depth trail = record { same = λ i h. refl }
 
-pub kept_both : {m depth : ℕ} {trail trail' trail'' : List ℕ} → m ≤ depth → Kept m trail trail' → Kept depth trail' trail'' → Kept m trail trail''
+pub kept_upper : {depth : ℕ} {trail trail' : Trail} → Kept depth trail trail' → (i : ℕ) → i < depth → upper_at trail' i ≡ upper_at trail i
+kept_upper kept i h = ap (λ (e : Entry). e.upper) (kept.same i h)
+
+pub kept_lower : {depth : ℕ} {trail trail' : Trail} → Kept depth trail trail' → (i : ℕ) → i < depth → lower_at trail' i ≡ lower_at trail i
+kept_lower kept i h = ap (λ (e : Entry). e.lower) (kept.same i h)
+
+pub kept_both : {m depth : ℕ} {trail trail' trail'' : Trail} → m ≤ depth → Kept m trail trail' → Kept depth trail' trail'' → Kept m trail trail''
 kept_both h one two = record { same = λ i l. two.same i (omega arith) ∙ one.same i l }
 
-kept_written : {depth : ℕ} {trail trail' : List ℕ} (at upper lower : ℕ) → depth ≤ at → Kept depth trail trail' → Kept depth trail (written at upper lower trail')
+kept_written : {depth : ℕ} {trail trail' : Trail} (at upper lower : ℕ) → depth ≤ at → Kept depth trail trail' → Kept depth trail (written at upper lower trail')
 kept_written {trail' = trail'} at upper lower h kept = kept_both h kept (written_kept trail' at upper lower)
 
-pub kept_wrote : {depth : ℕ} {trail trail' trail'' : List ℕ} (at upper lower : ℕ) → depth ≤ at → trail'' ≡ written at upper lower trail' → Kept depth trail trail' → Kept depth trail trail''
+pub kept_wrote : {depth : ℕ} {trail trail' trail'' : Trail} (at upper lower : ℕ) → depth ≤ at → trail'' ≡ written at upper lower trail' → Kept depth trail trail' → Kept depth trail trail''
 kept_wrote {depth} {trail} {trail'} at upper lower h e kept = rw e (kept_written at upper lower h kept)
 
-pub noted_written : {n : ℕ} (trail trail' : List ℕ) (i a b : ℕ) → trail' ≡ written i a b trail → 2 * i + 1 < length trail → a < n → b < n → Noted n trail' i
+pub noted_written : {n : ℕ} (trail trail' : Trail) (i a b : ℕ) → trail' ≡ written i a b trail → i < length trail → a < n → b < n → Noted n trail' i
 noted_written trail trail' i a b e long ha hb =
     rw e
     (record {
@@ -179,7 +186,7 @@ noted_written trail trail' i a b e long ha hb =
     })
 
 -- a decision turned
-pub noted_turned : {n : ℕ} (trail trail' : List ℕ) (last at : ℕ) → trail' ≡ turned last trail → at ≡ last → Noted n trail last → Noted n trail' at
+pub noted_turned : {n : ℕ} (trail trail' : Trail) (last at : ℕ) → trail' ≡ turned last trail → at ≡ last → Noted n trail last → Noted n trail' at
 noted_turned {n} trail trail' last at e is x =
     rw (e, is)
     (record {
@@ -188,18 +195,18 @@ noted_turned {n} trail trail' last at e is x =
       lower = omega (arith, x.upper, written_lower trail last (lower_at trail last) (upper_at trail last) x.long);
     })
 
-pub turn_kept : {trail trail' : List ℕ} (last : ℕ) → trail' ≡ turned last trail → Kept last trail trail'
+pub turn_kept : {trail trail' : Trail} (last : ℕ) → trail' ≡ turned last trail → Kept last trail trail'
 turn_kept {trail} last e = rw e (written_kept trail last (lower_at trail last) (upper_at trail last))
 
 -- decisions that stay are there still
-pub noted_kept : {n depth : ℕ} {trail trail' : List ℕ} (i : ℕ) → Kept depth trail trail' → length trail' ≡ length trail → i < depth → Noted n trail i → Noted n trail' i
+pub noted_kept : {n depth : ℕ} {trail trail' : Trail} (i : ℕ) → Kept depth trail trail' → length trail' ≡ length trail → i < depth → Noted n trail i → Noted n trail' i
 noted_kept i kept e h x =
     record {
       long = omega (arith, x.long);
-      upper = omega (arith, x.upper, kept.same (2 * i) (omega arith));
-      lower = omega (arith, x.lower, kept.same (2 * i + 1) (omega arith));
+      upper = omega (arith, x.upper, kept_upper kept i h);
+      lower = omega (arith, x.lower, kept_lower kept i h);
     }
 
-pub noted_long : {n : ℕ} {trail : List ℕ} (depth : ℕ) → ((i : ℕ) → i < depth → Noted n trail i) → 2 * depth ≤ length trail
+pub noted_long : {n : ℕ} {trail : Trail} (depth : ℕ) → ((i : ℕ) → i < depth → Noted n trail i) → depth ≤ length trail
 noted_long zero noted = omega arith
 noted_long (suc depth) noted = omega (arith, (noted depth (omega arith)).long)

@@ -1,7 +1,7 @@
 -- The choice, from the leaves whose edges to a root stay: a root has two of them where there is a second, and those roots are the
 -- forks.
 use Prim.Native.Nat.{ℕ, ◌≤◌, ◌<◌}
-use mathlib.Core.Path.{◌≡◌, sym, ap, subst, ◌∙◌}
+use mathlib.Core.Path.{◌≡◌, refl, sym, ap, subst, ◌∙◌}
 use mathlib.Core.List.{List}
 use mathlib.Core.Bool.{Bool, true, false, not, ◌&&◌}
 use mathlib.Core.Logic.{inl, inr, ⊎_elim}
@@ -9,30 +9,38 @@ use native.Mathlib.Nat.{eq-or-lt_of_le}
 use native.Mathlib.Omega.{arith}
 use lib.Dec.{eqb, ltb}
 use borrow.Author.Tests.{eqb-true, eqb-false, not-true, ne_eqb, ltb-true, ltb-false, le-ltb}
+use Rattle.std.specs.Prelude.{Option, None, Some}
 use Rattle.base_finite.specs.Below.{least}
 use Rattle.base_finite.proofs.Laws.{by_bool, and_both, and_false, least_none, least_is, least_at, least_below, least_holds}
 use Rattle.base_finite.proofs.Bounds.{least_ext}
-use Rattle.base_nodeset.specs.Set.{mem, Empty, Lowest}
+use Rattle.base_nodeset.specs.Set.{Pops, mem, Empty, Lowest}
 use Rattle.base_nodeset.specs.declared.NodeSet.{NodeSet}
 use Rattle.graph.specs.Graph.{Graph, root}
 use Rattle.graph.specs.Order.{Kept, Choice}
 use Rattle.theory_edges.proofs.Ends.{root_below}
 use Rattle.theory_list.proofs.Redundancy.{kept_within}
 use Rattle.theory_list.specs.Choosing.{Unforked}
-use Rattle.base_tables.specs.Sets.{in_row}
+use Rattle.base_tables.specs.Rows.{in_row}
 use Rattle.solve_reduce.specs.Reduced.{second_lowest, several, LooplessForm}
 
 -- the numbers but the lowest
 abbrev others : (ℕ → Bool) → ℕ → Bool
 others p k = not (eqb k (least 128 p)) && p k
 
-pub second_none : (s : NodeSet) → Empty s → 128 ≡ second_lowest (mem s)
+second_none : (s : NodeSet) → Empty s → 128 ≡ second_lowest (mem s)
 second_none s none = sym (least_none 128 (others (mem s)) (λ k small. rw (none k) (and_false (not (eqb k (least 128 (mem s)))))))
 
-pub second_some : {s rest : NodeSet} {x : ℕ} (r : ℕ) → Lowest s x rest → r ≡ least 128 (mem rest) → r ≡ second_lowest (mem s)
+second_some : {s rest : NodeSet} {x : ℕ} (r : ℕ) → Lowest s x rest → r ≡ least 128 (mem rest) → r ≡ second_lowest (mem s)
 second_some {s} {rest} {x} r first e =
     let is : least 128 (mem s) ≡ x = least_is 128 (mem s) x first.below first.in_set first.none_lower in
     e ∙ least_ext 128 (mem rest) (others (mem s)) (λ k h. first.others k ∙ rw is)
+
+-- the lowest once the lowest is taken out
+pub second_pop : {s s' : NodeSet} {x : Option ℕ} (r : ℕ) → Pops s s' x → r ≡ least 128 (mem s') → r ≡ second_lowest (mem s)
+second_pop {s} {x = None} r p e =
+    let none : Empty s = p.empty refl in
+    e ∙ rw (p.unchanged refl) (least_none 128 (mem s) (λ k small. none k)) ∙ second_none s none
+second_pop {x = Some k} r p e = second_some r (p.lowest k refl) e
 
 pub second_ext : (p q : ℕ → Bool) → ((k : ℕ) → p k ≡ q k) → second_lowest p ≡ second_lowest q
 second_ext p q same =
@@ -60,7 +68,7 @@ module _ (p : ℕ → Bool) (b : ℕ) (is : b ≡ second_lowest p) (some : b < 1
 pub lowest_below : (s : NodeSet) (b : ℕ) → b ≡ second_lowest (mem s) → b < 128 → least 128 (mem s) < b
 lowest_below s b is some = lowest_less (mem s) b is some
 
-module _ (g : Graph) (n : ℕ) (sets : List ℕ) (is : LooplessForm g n sets) where
+module _ (g : Graph) (n : ℕ) (sets : List NodeSet) (is : LooplessForm g n sets) where
   -- the leaves whose edges to v stay
   abbrev leaves : ℕ → ℕ → Bool
   leaves v l = in_row sets v l

@@ -22,14 +22,14 @@ use Rattle.theory_forest.proofs.Table.{or_holds, eqb_holds}
 use Rattle.theory_list.specs.Redundancy.{Loopless}
 use Rattle.theory_list.proofs.Redundancy.{kept_iff}
 use Rattle.theory_list.proofs.Between.{descent_by_edges}
-use Rattle.base_tables.specs.Sets.{in_row}
 use Rattle.base_tables.specs.Trees.{TreesOf}
 use Rattle.base_tables.specs.declared.trees.Trees.{Trees}
+use Rattle.base_tables.specs.Rows.{in_row}
 use Rattle.solve_closure.specs.Closing.{Rising}
 use Rattle.solve_reduce.specs.Reduced.{OverLeaf, Reduced}
 
 -- by the rows
-pub over_rows : (g : Graph) {t : Trees} → TreesOf g t → {sets : List ℕ} → Reduced g t.n sets → (a : ℕ) (up r : NodeSet) → Rising t.n a sets up → Intersection up t.leaves r → OverLeaf g a r
+pub over_rows : (g : Graph) {t : Trees} → TreesOf g t → {sets : List NodeSet} → Reduced g t.n sets → (a : ℕ) (up r : NodeSet) → Rising t.n a sets up → Intersection up t.leaves r → OverLeaf g a r
 over_rows g {t} ends {sets} form a up r is_up is_r l =
     let here : leaf g l ≡ true → (mem r l ≡ (eqb l a || in_row sets l a)) = λ h.
     is_r l ∙ rw (is_up l, ends.leaves_are l, h, lt-ltb l t.n (omega (arith, leaf_below g l h, ends.nodes))) (and_true (eqb l a || in_row sets l a)) in (
@@ -68,7 +68,7 @@ rise g s {l} {x} k h = (
   path_trans (one (inr k.0)) (path_map (λ u w t. inl t) (leaf_below_own g s x h)),
 )
 
-module _ (g : Graph) (s : Shaped g) {t : Trees} (ends : TreesOf g t) (free : Loopless g) (sets : List ℕ) (form : Reduced g t.n sets) where
+module _ (g : Graph) (s : Shaped g) {t : Trees} (ends : TreesOf g t) (free : Loopless g) (sets : List NodeSet) (form : Reduced g t.n sets) where
   -- the edges that stay, as the code takes them off the table
   module _ (x at : ℕ) (h : leaf g x ≡ true) (is : at ≡ own g x) (row cut : NodeSet) (is_row : (l : ℕ) → mem row l ≡ in_row sets at l) (is_cut : Intersection row t.leaves cut) where
     at_root : root g at ≡ true

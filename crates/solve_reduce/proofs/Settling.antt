@@ -1,13 +1,14 @@
 -- The settled placing, byte by byte: at each node the lowest leaf whose edge to it stays, and no node where there is none.
-use Prim.Native.Nat.{ℕ, ◌+◌, ◌≤◌, ◌<◌}
+use Prim.Native.Nat.{ℕ, ◌+◌, ◌-◌, ◌≤◌, ◌<◌}
 use mathlib.Core.Path.{◌≡◌, sym, ap, ◌∙◌}
-use mathlib.Core.List.{List}
+use mathlib.Core.List.{List, ◌++◌}
 use mathlib.Core.Bool.{Bool, true, false, cond, not, ◌&&◌, true≢false}
 use native.Mathlib.Omega.{arith}
 use lib.Dec.{eqb, ltb}
-use lib.ListN.{length, set, take, drop, length-drop}
+use lib.ListN.{length, set, take, drop, replicate, length-drop, length-replicate, get_or-append}
+use Rattle.std.proofs.lemmas.List.{get_or-replicate, get_or-append_right}
 use lib.Seq.{get_or-set_same, get_or-set_other, get_or-take, get_or-drop, ext_get_or, length-take-le}
-use borrow.Author.Tests.{eqb-true, eqb-false, lt-ltb, le-ltb, ltb-true}
+use borrow.Author.Tests.{eqb-true, eqb-false, lt-ltb, le-ltb, ltb-true, ltb-false}
 use Rattle.base_finite.specs.Below.{any, least}
 use Rattle.base_finite.proofs.Laws.{by_bool, and_true, not_holding, test_ext, any_found, any_false, least_none, least_holds}
 use Rattle.base_finite.proofs.Bounds.{least_ext, least_cut}
@@ -22,10 +23,24 @@ use Rattle.theory_list.proofs.Redundancy.{kept_holds}
 use Rattle.theory_list.specs.Choosing.{lowest_above}
 use Rattle.theory_list.specs.Settled.{within, settled}
 use Rattle.theory_list.proofs.Settled.{settled_length, settled_at}
-use Rattle.base_tables.specs.Sets.{in_row}
 use Rattle.base_tables.specs.Trees.{TreesOf}
 use Rattle.base_tables.specs.declared.trees.Trees.{Trees}
+use Rattle.base_tables.specs.Rows.{in_row}
 use Rattle.solve_reduce.specs.Reduced.{LooplessForm}
+
+-- the first n bytes filled with z
+pub filled_first : (n z : ℕ) (old first : List ℕ) → n ≤ length old → first ≡ replicate (length (take n old)) z → Filled (λ (k : ℕ). z) n old (first ++ drop n old)
+filled_first n z old first h is k =
+    let room : length (take n old) ≡ n = length-take-le n old h in
+    let long : length first ≡ n = rw is (length-replicate (length (take n old)) z) ∙ room in
+    by_bool (ltb k n)
+    (λ (e : ltb k n ≡ true).
+    let less : k < n = ltb-true k n e in
+    rw e (get_or-append first (drop n old) 0 k (omega (arith, long)) ∙ rw is (get_or-replicate (length (take n old)) k z 0 (omega (arith, room)))))
+    (λ (e : ltb k n ≡ false).
+    let above : n ≤ k = ltb-false k n e in
+    let there : n + (k - n) ≡ k = omega arith in
+    rw e (get_or-append_right first (drop n old) n k 0 long above ∙ get_or-drop n old (k - n) 0 ∙ rw there))
 
 -- a search that goes on behind n finds nothing more, as a node
 least_within : (n : ℕ) (p : ℕ → Bool) → n ≤ 128 → within n (least 128 p) ≡ within n (least n p)
@@ -45,18 +60,18 @@ least_within n p h =
     rw (out, least_none n p (any_false n p t), le-ltb n n (omega arith)))
 
 -- what is to stand at v: the lowest leaf whose edge to it stays, where v is a root
-abbrev pub lowest : ℕ → NodeSet → List ℕ → ℕ → ℕ
+abbrev pub lowest : ℕ → NodeSet → List NodeSet → ℕ → ℕ
 lowest n roots sets v = cond (mem roots v) (within n (least 128 (λ (l : ℕ). in_row sets v l))) none
 
 -- the same, of the roots passed
-abbrev lowest_of : ℕ → NodeSet → NodeSet → List ℕ → ℕ → ℕ
+abbrev lowest_of : ℕ → NodeSet → NodeSet → List NodeSet → ℕ → ℕ
 lowest_of n roots left sets v = cond (mem roots v && not (mem left v)) (within n (least 128 (λ (l : ℕ). in_row sets v l))) none
 
-pub record SettledSo (n : ℕ) (roots : NodeSet) (sets : List ℕ) (left : NodeSet) (old out : List ℕ) : Type 0 where
+pub record SettledSo (n : ℕ) (roots : NodeSet) (sets : List NodeSet) (left : NodeSet) (old out : List ℕ) : Type 0 where
   pub of_roots : (v : ℕ) → mem left v ≡ true → mem roots v ≡ true
   pub filled : Filled (lowest_of n roots left sets) n old out
 
-pub settle_start : (n : ℕ) (roots : NodeSet) (sets old out : List ℕ) → Filled (λ (k : ℕ). none) n old out → SettledSo n roots sets roots out out
+pub settle_start : (n : ℕ) (roots : NodeSet) (sets : List NodeSet) (old out : List ℕ) → Filled (λ (k : ℕ). none) n old out → SettledSo n roots sets roots out out
 settle_start n roots sets old out clear =
     record {
       of_roots = λ v h. h;
@@ -66,7 +81,7 @@ settle_start n roots sets old out clear =
           (λ (e : ltb k n ≡ false). rw e);
     }
 
-pub settle_more : (n : ℕ) (roots : NodeSet) (sets : List ℕ) (left left' : NodeSet) (old out : List ℕ) (v l b : ℕ) (from : NodeSet) → Lowest left v left' → v < n → v < length out
+pub settle_more : (n : ℕ) (roots : NodeSet) (sets : List NodeSet) (left left' : NodeSet) (old out : List ℕ) (v l b : ℕ) (from : NodeSet) → Lowest left v left' → v < n → v < length out
     → ((k : ℕ) → mem from k ≡ in_row sets v k) → l ≡ least 128 (mem from) → b ≡ within n l → SettledSo n roots sets left old out → SettledSo n roots sets left' old (set out v b)
 settle_more n roots sets left left' old out v l b from first small long are is_l is_b so =
     record {
@@ -87,14 +102,14 @@ settle_more n roots sets left left' old out v l b from first small long are is_l
           ∙ rw (removed_other left v left' first.others k other));
     }
 
-pub settle_end : (n : ℕ) (roots : NodeSet) (sets : List ℕ) (left : NodeSet) (old clear out : List ℕ) → Empty left → Filled (λ (k : ℕ). none) n old clear → SettledSo n roots sets left clear out → Filled (lowest n roots sets) n old out
+pub settle_end : (n : ℕ) (roots : NodeSet) (sets : List NodeSet) (left : NodeSet) (old clear out : List ℕ) → Empty left → Filled (λ (k : ℕ). none) n old clear → SettledSo n roots sets left clear out → Filled (lowest n roots sets) n old out
 settle_end n roots sets left old clear out none_left was so k =
     so.filled k
     ∙ by_bool (ltb k n)
     (λ (e : ltb k n ≡ true). rw (e, none_left k, and_true (mem roots k)))
     (λ (e : ltb k n ≡ false). rw e (was k ∙ rw e))
 
-module _ (g : Graph) (t : Trees) (sets : List ℕ) (ends : TreesOf g t) (is : LooplessForm g t.n sets) where
+module _ (g : Graph) (t : Trees) (sets : List NodeSet) (ends : TreesOf g t) (is : LooplessForm g t.n sets) where
   -- a node that is no root has no edge
   settled_else : (v : ℕ) → v < t.n → root g v ≡ false → none ≡ at (settled g) v
   unfolding lowest_above kept within

@@ -20,8 +20,7 @@ use Rattle.theory_forest.proofs.Closure.{path_trans}
 use Rattle.theory_forest.proofs.Fragments.{leaf_childless}
 use Rattle.theory_list.specs.Redundancy.{Loopless}
 use Rattle.theory_list.proofs.Keeping.{kept_rows_lem}
-use Rattle.base_tables.specs.Rows.{IsRow, Tops}
-use Rattle.base_tables.specs.Sets.{in_row, Rows}
+use Rattle.base_tables.specs.Rows.{in_row, Rows, IsRow, Tops}
 use Rattle.base_tables.specs.Trees.{TreesOf}
 use Rattle.base_tables.specs.declared.trees.Trees.{Trees}
 use Rattle.solve_reduce.specs.Staying.{head_of, Heads}
@@ -43,7 +42,7 @@ enters g s h (more {v = v} {w = x} p (inl t)) =
           e.3),
     )
 
-module _ (g : Graph) (s : Shaped g) (t : Trees) (sets : List ℕ) (ends : TreesOf g t) (rows : Rows (Descent g) sets) where
+module _ (g : Graph) (s : Shaped g) (t : Trees) (sets : List NodeSet) (ends : TreesOf g t) (rows : Rows (Descent g) sets) where
   -- an edge stays just where the row of its leaf says so
   pub head_kept : Loopless g → (l v : ℕ) → ((mem t.leaves l && head_of t.roots sets l v) ≡ true) ↔ Kept g l v
   unfolding head_of
@@ -83,7 +82,7 @@ module _ (g : Graph) (s : Shaped g) (t : Trees) (sets : List ℕ) (ends : TreesO
       between x = (in_row sets l x && mem t.roots x) && in_row sets x v
 
 -- the roots in a row, and the tops of them
-pub heads_row : (roots : NodeSet) (sets : List ℕ) (l : ℕ) (row set r : NodeSet) → Small roots → IsRow (in_row sets) l row → Intersection row roots set → Tops (in_row sets) set r
+pub heads_row : (roots : NodeSet) (sets : List NodeSet) (l : ℕ) (row set r : NodeSet) → Small roots → IsRow (in_row sets) l row → Intersection row roots set → Tops (in_row sets) set r
     → Heads roots sets l r
 unfolding head_of
 heads_row roots sets l row set r small is_row is_set tops =

@@ -23,8 +23,7 @@ use Rattle.theory_forest.proofs.Table.{or_holds, and_holds}
 use Rattle.theory_list.specs.Redundancy.{Loopless}
 use Rattle.theory_list.specs.Keeping.{Fresh}
 use Rattle.theory_list.proofs.Keeping.{loopless_fewer, kept_adding}
-use Rattle.base_tables.specs.Rows.{Closed}
-use Rattle.base_tables.specs.Sets.{in_row, RowPut, Rows}
+use Rattle.base_tables.specs.Rows.{in_row, RowPut, Rows, Closed}
 use Rattle.base_tables.proofs.Tops.{descent_closed}
 use Rattle.base_tables.specs.Trees.{Bounded, TreesOf}
 use Rattle.base_tables.specs.declared.trees.Trees.{Trees}
@@ -36,26 +35,26 @@ use Rattle.solve_reduce.proofs.Staying.{head_kept}
 use Rattle.solve_reduce.proofs.Choices.{several_ext, several_none}
 
 -- the forks of tables that are the same at the roots
-forks_as : (roots : NodeSet) (sets sets' : List ℕ) (v : ℕ) → (mem roots v ≡ true → (l : ℕ) → in_row sets' v l ≡ in_row sets v l)
+forks_as : (roots : NodeSet) (sets sets' : List NodeSet) (v : ℕ) → (mem roots v ≡ true → (l : ℕ) → in_row sets' v l ≡ in_row sets v l)
     → (mem roots v && several (λ (l : ℕ). in_row sets v l)) ≡ (mem roots v && several (λ (l : ℕ). in_row sets' v l))
 forks_as roots sets sets' v same =
     by_bool (mem roots v)
     (λ t. rw t (several_ext (λ (l : ℕ). in_row sets v l) (λ (l : ℕ). in_row sets' v l) (λ l. sym (same t l))))
     (λ t. rw t)
 
-put_wide : (n : ℕ) {i : ℕ} {s : NodeSet} {sets sets' : List ℕ} → RowPut i s sets sets' → Wide n sets → Wide n sets'
+put_wide : (n : ℕ) {i : ℕ} {s : NodeSet} {sets sets' : List NodeSet} → RowPut i s sets sets' → Wide n sets → Wide n sets'
 put_wide n p w = omega (arith, p.long)
 
 -- the forks
 
 -- all but the forks
-pub record Unmarked (g : Graph) (n : ℕ) (sets : List ℕ) : Type 0 where
+pub record Unmarked (g : Graph) (n : ℕ) (sets : List NodeSet) : Type 0 where
   pub wide : Wide n sets
   pub under : Under g sets
   pub edges : Loopless g → (v l : ℕ) → root g v ≡ true → (in_row sets v l ≡ true) ↔ Kept g l v
 
 -- and the forks put in their place
-pub marked : {n : ℕ} (roots : NodeSet) {s : NodeSet} {sets sets' : List ℕ} (g : Graph) → n ≡ g.nodes → ((v : ℕ) → mem roots v ≡ root g v) → Unmarked g n sets → Forks roots sets s
+pub marked : {n : ℕ} (roots : NodeSet) {s : NodeSet} {sets sets' : List NodeSet} (g : Graph) → n ≡ g.nodes → ((v : ℕ) → mem roots v ≡ root g v) → Unmarked g n sets → Forks roots sets s
     → RowPut n s sets sets' → Reduced g n sets'
 marked {n} roots {s} {sets} {sets'} g nodes are_roots before are p =
     let same : (i v : ℕ) → i < n → in_row sets' i v ≡ in_row sets i v = λ i v h. p.row_is i v ∙ rw (ne_eqb i n (λ e. omega arith)) in
@@ -76,7 +75,7 @@ marked {n} roots {s} {sets} {sets'} g nodes are_roots before are p =
     }
 
 -- a set stored among the edges, and noted
-pub forks_put : (roots : NodeSet) (x : ℕ) (forks r : NodeSet) {s : NodeSet} {sets sets' : List ℕ} → mem roots x ≡ true → RowPut x s sets sets' → Noted forks x s r → Forks roots sets forks → Forks roots sets' r
+pub forks_put : (roots : NodeSet) (x : ℕ) (forks r : NodeSet) {s : NodeSet} {sets sets' : List NodeSet} → mem roots x ≡ true → RowPut x s sets sets' → Noted forks x s r → Forks roots sets forks → Forks roots sets' r
 forks_put roots x forks r {s} {sets} {sets'} in_roots p note are w =
     note w
     ∙ by_bool (eqb w x)
@@ -86,7 +85,7 @@ forks_put roots x forks r {s} {sets} {sets'} in_roots p note are w =
     (λ (e : eqb w x ≡ false). rw e (are w ∙ forks_as roots sets sets' w (λ t l. p.row_is w l ∙ rw e)))
 
 -- the same edges, the same forks
-pub forks_same : (roots : NodeSet) (sets sets' : List ℕ) (s : NodeSet) → ((v l : ℕ) → mem roots v ≡ true → in_row sets' v l ≡ in_row sets v l) → Forks roots sets s → Forks roots sets' s
+pub forks_same : (roots : NodeSet) (sets sets' : List NodeSet) (s : NodeSet) → ((v l : ℕ) → mem roots v ≡ true → in_row sets' v l ≡ in_row sets v l) → Forks roots sets s → Forks roots sets' s
 forks_same roots sets sets' s same are v = are v ∙ forks_as roots sets sets' v (λ t l. same v l t)
 
 -- no node is a root and a leaf
@@ -99,10 +98,10 @@ ends_disjoint g s {t} ends v h =
 
 -- the rows laid out
 
-abbrev pub LaidSo : NodeSet → List ℕ → ℕ → List ℕ → Type 0
+abbrev pub LaidSo : NodeSet → List NodeSet → ℕ → List NodeSet → Type 0
 LaidSo leaves rows k sets = (u v : ℕ) → u < k → in_row sets u v ≡ (mem leaves u && in_row rows u v)
 
-pub laid_more : (leaves : NodeSet) (rows : List ℕ) (k : ℕ) (sets sets' : List ℕ) (s : NodeSet) → ((v : ℕ) → mem s v ≡ (mem leaves k && in_row rows k v)) → RowPut k s sets sets'
+pub laid_more : (leaves : NodeSet) (rows : List NodeSet) (k : ℕ) (sets sets' : List NodeSet) (s : NodeSet) → ((v : ℕ) → mem s v ≡ (mem leaves k && in_row rows k v)) → RowPut k s sets sets'
     → LaidSo leaves rows k sets → LaidSo leaves rows (k + 1) sets'
 laid_more leaves rows k sets sets' s is p so u v h =
     p.row_is u v
@@ -113,7 +112,7 @@ laid_more leaves rows k sets sets' s is p so u v h =
     rw e (so u v (omega arith)))
 
 -- no edges, no forks
-pub forks_none : (t : Trees) (rows sets : List ℕ) (s : NodeSet) → Bounded t → Disjoint t.roots t.leaves → Empty s → Laid t.n t.leaves rows sets → Forks t.roots sets s
+pub forks_none : (t : Trees) (rows sets : List NodeSet) (s : NodeSet) → Bounded t → Disjoint t.roots t.leaves → Empty s → Laid t.n t.leaves rows sets → Forks t.roots sets s
 forks_none t rows sets s within apart nothing laid v =
     nothing v
     ∙ sym (by_bool (mem t.roots v)
@@ -127,16 +126,16 @@ forks_none t rows sets s within apart nothing laid v =
 abbrev after : Bool → Bool → Bool → Bool
 after there less more = there && not less || more
 
-pub record RevisedSo (set less more : NodeSet) (sets : List ℕ) (left : NodeSet) (sets' : List ℕ) : Type 0 where
+pub record RevisedSo (set less more : NodeSet) (sets : List NodeSet) (left : NodeSet) (sets' : List NodeSet) : Type 0 where
   pub of_set : (v : ℕ) → mem left v ≡ true → mem set v ≡ true
   pub row_is : (v l : ℕ)
       → in_row sets' v l ≡ cond (mem set v && not (mem left v)) (after (in_row sets v l) (mem less l) (mem more l)) (in_row sets v l)
 
-pub revise_start : (set less more : NodeSet) (sets : List ℕ) → RevisedSo set less more sets set sets
+pub revise_start : (set less more : NodeSet) (sets : List NodeSet) → RevisedSo set less more sets set sets
 revise_start set less more sets =
     record { of_set = λ v h. h; row_is = λ v l. by_bool (mem set v) (λ e. rw e) (λ e. rw e) }
 
-pub revise_more : (set less more : NodeSet) (sets : List ℕ) (left : NodeSet) (sets₁ sets₂ : List ℕ) (x : ℕ) (left' : NodeSet)
+pub revise_more : (set less more : NodeSet) (sets : List NodeSet) (left : NodeSet) (sets₁ sets₂ : List NodeSet) (x : ℕ) (left' : NodeSet)
     → Lowest left x left' → RevisedAt x less more sets₁ sets₂
     → RevisedSo set less more sets left sets₁ → RevisedSo set less more sets left' sets₂
 revise_more set less more sets left sets₁ sets₂ x left' first p so =
@@ -154,11 +153,11 @@ revise_more set less more sets left sets₁ sets₂ x left' first p so =
     }
 
 -- one root's, stored or as they were
-module _ (x : ℕ) (less more old fewer from : NodeSet) (sets : List ℕ) (are : (l : ℕ) → mem old l ≡ in_row sets x l) (is_fewer : Difference old less fewer) (is_from : Union fewer more from) where
+module _ (x : ℕ) (less more old fewer from : NodeSet) (sets : List NodeSet) (are : (l : ℕ) → mem old l ≡ in_row sets x l) (is_fewer : Difference old less fewer) (is_from : Union fewer more from) where
   from_is : (l : ℕ) → mem from l ≡ (in_row sets x l && not (mem less l) || mem more l)
   from_is l = is_from l ∙ rw (is_fewer l, are l)
 
-  pub revised_put : {sets' : List ℕ} → RowPut x from sets sets' → RevisedAt x less more sets sets'
+  pub revised_put : {sets' : List NodeSet} → RowPut x from sets sets' → RevisedAt x less more sets sets'
   revised_put p = record { row_is = λ u l. p.row_is u l ∙ rw (from_is l) }
 
   pub revised_same : old.low ≡ from.low → old.high ≡ from.high → RevisedAt x less more sets sets
@@ -172,20 +171,20 @@ module _ (x : ℕ) (less more old fewer from : NodeSet) (sets : List ℕ) (are :
             (λ (e : eqb u x ≡ false). rw e);
       }
 
-pub revise_end : (set less more : NodeSet) (sets : List ℕ) (left : NodeSet) (sets' : List ℕ) → Empty left
+pub revise_end : (set less more : NodeSet) (sets : List NodeSet) (left : NodeSet) (sets' : List NodeSet) → Empty left
     → RevisedSo set less more sets left sets' → Revised set less more sets sets'
 revise_end set less more sets left sets' none so = record { row_is = λ v l. so.row_is v l ∙ rw (none v, and_true (mem set v)) }
 
 -- the leaves' edges entered
 
-pub record EnteredSo (n : ℕ) (leaves roots : NodeSet) (base : List ℕ) (left : NodeSet) (sets : List ℕ) : Type 0 where
+pub record EnteredSo (n : ℕ) (leaves roots : NodeSet) (base : List NodeSet) (left : NodeSet) (sets : List NodeSet) : Type 0 where
   pub of_set : (l : ℕ) → mem left l ≡ true → mem leaves l ≡ true
   pub wide : Wide n sets
   pub under : (u v : ℕ) → u < n → mem roots u ≡ false → in_row sets u v ≡ (mem leaves u && in_row base u v)
   pub edges : Closed (in_row base) → Disjoint roots leaves → (v l : ℕ) → v < n → mem roots v ≡ true
       → in_row sets v l ≡ ((mem leaves l && not (mem left l)) && head_of roots base l v)
 
-pub enter_start : (n : ℕ) (leaves roots : NodeSet) (base sets : List ℕ) → Wide n sets → Laid n leaves base sets → EnteredSo n leaves roots base leaves sets
+pub enter_start : (n : ℕ) (leaves roots : NodeSet) (base sets : List NodeSet) → Wide n sets → Laid n leaves base sets → EnteredSo n leaves roots base leaves sets
 enter_start n leaves roots base sets wide laid =
     record {
       of_set = λ l h. h;
@@ -202,7 +201,7 @@ entered_else : (t b : Bool) → cond t (after b false false) b ≡ b
 entered_else true b = or_false (b && true) ∙ and_true b
 entered_else false b = refl
 
-pub enter_more : (n : ℕ) (leaves roots : NodeSet) (base : List ℕ) (left : NodeSet) (sets sets' : List ℕ) (l : ℕ) (to nothing only left' : NodeSet)
+pub enter_more : (n : ℕ) (leaves roots : NodeSet) (base : List NodeSet) (left : NodeSet) (sets sets' : List NodeSet) (l : ℕ) (to nothing only left' : NodeSet)
     → length sets' ≡ length sets → Lowest left l left' → Heads roots base l to → Empty nothing → Only l only → Revised to nothing only sets sets'
     → EnteredSo n leaves roots base left sets → EnteredSo n leaves roots base left' sets'
 enter_more n leaves roots base left sets sets' l to nothing only left' long first is none_there is_only r so =
@@ -224,7 +223,7 @@ enter_more n leaves roots base left sets sets' l to nothing only left' long firs
           rw (none_there k, is_only k, e, removed_other left l left' first.others k other) (entered_else (mem to v) (in_row sets v k) ∙ so.edges closed apart v k h in_roots));
     }
 
-pub enter_end : (t : Trees) (base : List ℕ) (left : NodeSet) (sets : List ℕ) → Empty left
+pub enter_end : (t : Trees) (base : List NodeSet) (left : NodeSet) (sets : List NodeSet) → Empty left
     → EnteredSo t.n t.leaves t.roots base left sets → (g : Graph) → Shaped g → TreesOf g t → Rows (Descent g) base → Unmarked g t.n sets
 enter_end t base left sets none so g s ends rows =
     record {
@@ -253,7 +252,7 @@ unfolding adding
 nodes_adding g a r = refl
 
 module _ (g : Graph) (s : Shaped g) (t : Trees) (ends : TreesOf g t) (a r : ℕ) (new : Fresh g a r)
-    {sets sets₁ sets₂ sets₃ : List ℕ} (before : Reduced g t.n sets) (over below lower nothing from with_a : NodeSet)
+    {sets sets₁ sets₂ sets₃ : List NodeSet} (before : Reduced g t.n sets) (over below lower nothing from with_a : NodeSet)
     (are_below : BelowRoot g r below)
     (are_over : OverLeaf g a over)
     (joined : Joined (mem over) (mem below) sets sets₁)

@@ -5,28 +5,34 @@ ghost use Rattle.solve_reduce.specs.Reduced.{Wide, LooplessForm};
 ghost use Rattle.solve_reduce.specs.Chosen.{Bounded, Chosen};
 
 use crate::forks::second_lowest;
-use base_tables::sets::set_at;
+use base_nodeset::NodeSet;
 
 #[derive(Clone, Copy)]
-pub enum Fork {
-    None,
-    At(usize, usize, usize),
+pub struct Fork {
+    pub root: usize,
+    pub first: usize,
+    pub second: usize,
 }
 
-// (v, a, b) of the choice. The test of b is for the bounds alone: a fork has its two leaves.
-pub fn choose(sets: &[u64], n: usize) -> Fork
+// The choice. The test of `second` is for the bounds alone: a fork has its two leaves.
+pub fn choose(sets: &[NodeSet], n: usize) -> Option<Fork>
     requires { Wide n sets.now × (n ≤ 128) }
     ensures bounded { Bounded n result }
     ensures chosen { (g : Graph) → LooplessForm g n sets.now → Chosen g result }
 {
-    let v = set_at(sets, n).lowest();
-    if n <= v {
-        return Fork::None;
+    let root = sets[n].lowest();
+    if n <= root {
+        return None;
     }
-    let from = set_at(sets, v);
-    let b = second_lowest(from);
-    if n <= b {
-        return Fork::None;
+    let leaves = sets[root];
+    let second = second_lowest(leaves);
+    if n <= second {
+        return None;
     }
-    Fork::At(v, from.lowest(), b)
+    let first = leaves.lowest();
+    Some(Fork {
+        root,
+        first,
+        second,
+    })
 }

@@ -3,15 +3,14 @@ ghost use Rattle.std.specs.Prelude.{◌≡◌, ◌<◌};
 ghost use Rattle.base_nodeset.specs.Set.{mem};
 ghost use Rattle.solve_reduce.specs.Reduced.{second_lowest, Noted};
 
-use base_nodeset::{NodeSet, Popped};
+use base_nodeset::NodeSet;
 
 // The lowest member but one, and 128 where there are no two.
 pub fn second_lowest(set: NodeSet) -> usize
     ensures { result ≡ second_lowest (mem set) }
 {
-    let Popped::Member(_, rest) = set.pop() else {
-        return 128;
-    };
+    let mut rest = set;
+    rest.pop_first();
     rest.lowest()
 }
 

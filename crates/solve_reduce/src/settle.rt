@@ -5,8 +5,7 @@ ghost use Rattle.theory_list.specs.Settled.{within, settled};
 ghost use Rattle.base_tables.specs.Trees.{Bounded, TreesOf};
 ghost use Rattle.solve_reduce.specs.Reduced.{Wide, LooplessForm};
 
-use base_nodeset::Popped;
-use base_tables::sets::set_at;
+use base_nodeset::NodeSet;
 use base_tables::trees::Trees;
 use graph::NONE;
 
@@ -26,24 +25,18 @@ fn clear(out: &mut [u8], n: usize)
     requires { n ≤ length out.old }
     ensures { (k : ℕ) → get_or out.new k 0 ≡ cond (ltb k n) none (get_or out.old k 0) }
 {
-    for v in 0..n {
-        out[v] = NONE;
-    }
+    out[..n].fill(NONE);
 }
 
-pub fn settle(sets: &[u64], trees: Trees, out: &mut [u8])
-    requires { Wide trees.n sets.now × Bounded trees × (trees.n ≤ length out.old) }
-    ensures out_unchanged { drop trees.n out.new ≡ drop trees.n out.old }
-    ensures out_after { (g : Graph) → TreesOf g trees → LooplessForm g trees.n sets.now → take trees.n out.new ≡ settled g }
+pub fn settle(sets: &[NodeSet], trees: &Trees, out: &mut [u8])
+    requires { Wide trees.now.n sets.now × Bounded trees.now × (trees.now.n ≤ length out.old) }
+    ensures out_unchanged { drop trees.now.n out.new ≡ drop trees.now.n out.old }
+    ensures out_after { (g : Graph) → TreesOf g trees.now → LooplessForm g trees.now.n sets.now → take trees.now.n out.new ≡ settled g }
 {
     let n = trees.n;
     clear(out, n);
     let mut left = trees.roots;
-    loop {
-        let Popped::Member(v, rest) = left.pop() else {
-            return;
-        };
-        out[v] = byte(set_at(sets, v).lowest(), n);
-        left = rest;
+    while let Some(v) = left.pop_first() {
+        out[v] = byte(sets[v].lowest(), n);
     }
 }

@@ -1,24 +1,33 @@
 -- The choice among the leaves that carry several roots, one leaf more at a time; the chosen leaf is the problem leaf of
 -- Rule 1.
 use Prim.Native.Nat.{ℕ, ◌+◌, ◌≤◌, ◌<◌}
-use mathlib.Core.Path.{◌≡◌, sym, ◌∙◌}
+use mathlib.Core.Path.{◌≡◌, sym, ap, ◌∙◌}
 use mathlib.Core.List.{List}
-use mathlib.Core.Bool.{true, false, not, ◌&&◌, ◌||◌, true≢false}
+use Rattle.std.specs.Prelude.{Option, Some, None}
+use mathlib.Core.Bool.{Bool, true, false, not, ◌&&◌, ◌||◌, true≢false}
 use mathlib.Core.Logic.{⊎_elim}
 use native.Mathlib.Numerals.{add-one}
 use native.Mathlib.Omega.{arith}
 use lib.Dec.{leb, ltb}
-use borrow.Author.Tests.{lt-ltb, le-ltb, ltb-true, ltb-false, le-leb, lt-leb}
+use borrow.Author.Tests.{lt-ltb, ltb-true, ltb-false, le-leb, lt-leb}
 use Rattle.base_finite.specs.Below.{any, least}
-use Rattle.base_finite.proofs.Laws.{by_bool, last_or_below, and_both, any_at, any_found, least_is, least_at, least_below, all_every, all_fails, and_false}
+use Rattle.base_finite.proofs.Laws.{by_bool, last_or_below, and_both, any_at, any_found, least_is, least_at, least_holds, least_below, all_every, all_fails}
 use Rattle.graph.specs.Graph.{Graph}
 use Rattle.graph.specs.Rule1.{problem, depth, shallowest, problem_leaf}
 use Rattle.base_finite.proofs.Counting.{least_found}
 use Rattle.base_nodeset.specs.Set.{mem}
 use Rattle.base_nodeset.specs.declared.NodeSet.{NodeSet}
 use Rattle.solve_rule1.specs.Solved.{Solved}
-use Rattle.solve_rule1.specs.Carried.{Carrying, better, Best}
+use Rattle.solve_rule1.specs.Carried.{Carrying, better, Best, First}
 use Rattle.solve_rule1.proofs.SolvedTables.{few, several_is}
+
+-- the lowest that a test holds of, where it holds of some
+pub first_found : (n : ℕ) (p : ℕ → Bool) (r : Option ℕ) → First n p r → least n p < n → r ≡ Some (least n p)
+first_found n p None none h = absurd (true≢false (sym (least_holds n p h) ∙ none (least n p) h))
+first_found n p (Some v) f h = ap Some (sym (least_is n p v f.0 f.1 f.2))
+
+pub some_first : {x y : ℕ} → Some x ≡ Some y → x ≡ y
+some_first e = cc e
 
 -- one leaf more
 
@@ -28,14 +37,6 @@ lowest_within leaves n few t =
     omega (arith, r.1, least_at 128 (mem leaves) r.0 (omega (arith, few, r.1)) r.2)
 
 module _ (leaves : NodeSet) (deep : ℕ → ℕ) where
-  pub better_other : (best l : ℕ) → mem leaves l ≡ false → best ≡ better leaves deep best l
-  unfolding better
-  better_other best l e = rw e
-
-  pub better_deeper : (best l : ℕ) → deep best ≤ deep l → best ≡ better leaves deep best l
-  unfolding better
-  better_deeper best l h = rw (le-ltb (deep l) (deep best) h, and_false (mem leaves l))
-
   pub better_taken : (best l : ℕ) → mem leaves l ≡ true → deep l < deep best → l ≡ better leaves deep best l
   unfolding better
   better_taken best l e h = rw (e, lt-ltb (deep l) (deep best) h)

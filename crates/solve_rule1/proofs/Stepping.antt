@@ -1,67 +1,42 @@
 -- One step and all of them: the bytes after a step are the shifted placing, and n * n steps are enough for Rule 1 to end.
 use Prim.Native.Nat.{ℕ, ◌+◌, ◌*◌, ◌≤◌, ◌<◌}
-use mathlib.Core.Path.{◌≡◌, refl, sym, ap, subst⁻¹, ◌∙◌}
+use Rattle.std.specs.Prelude.{Option, Some, None}
+use mathlib.Core.Path.{◌≡◌, sym, ap, subst⁻¹, ◌∙◌}
 use mathlib.Core.List.{List}
 use mathlib.Core.Bool.{Bool, true, false, cond, not, ◌&&◌}
-use mathlib.Core.Logic.{⊎_elim}
 use native.Mathlib.Nat.{mul-le-mul_left, mul-le-mul_right}
-use native.Mathlib.Numerals.{add-one}
 use native.Mathlib.Omega.{arith}
 use lib.Dec.{eqb, ltb}
-use lib.ListN.{length, get_or, set, length-set}
-use lib.Seq.{ext_get_or, get_or-set_same, get_or-set_other}
+use lib.ListN.{length}
+use lib.Seq.{ext_get_or}
 use borrow.Author.Tests.{eqb-true, eqb-false, lt-ltb, le-ltb}
 use Rattle.base_finite.specs.Below.{any, least}
-use Rattle.base_finite.proofs.Laws.{by_bool, last_or_below, least_at, and_false, not_holding}
-use Rattle.graph.specs.Graph.{Graph}
+use Rattle.base_finite.proofs.Laws.{by_bool, least_at, and_false, not_holding}
+use Rattle.graph.specs.Graph.{Graph, root, leaf_of}
 use Rattle.graph.specs.Placing.{at, hangs, SolvedForm}
 use Rattle.graph.specs.Rule1.{problem, problem_leaf, staying, lowest_leaf_of, shifted, Rule1, done, again}
-use Rattle.theory_edges.proofs.Ends.{root_below}
+use Rattle.theory_edges.proofs.Ends.{leaf_below, root_below}
+use Rattle.theory_forest.proofs.Fragments.{leaf_of_parts}
 use Rattle.theory_forest.proofs.Table.{hangs_parts}
 use Rattle.theory_forest.specs.Shape.{Shaped}
 use Rattle.theory_forest.proofs.Shape.{well_formed_shaped}
 use Rattle.base_finite.proofs.Counting.{length_entries, entry_at}
-use Rattle.theory_rule1.proofs.Shifting.{Problem, staying_hangs, shifted_solved}
+use Rattle.theory_rule1.proofs.Shifting.{Problem, lowest_leaf_of_lem, staying_hangs, shifted_solved}
 use Rattle.theory_rule1.proofs.Ending.{pairs_below, pairs_bound, pairs_grow}
 use Rattle.base_finite.proofs.Bounds.{least_ext}
 use Rattle.solve_rule1.specs.Solved.{Solved}
 use Rattle.base_finite.specs.Stores.{entry_is}
-use Rattle.solve_rule1.specs.Carried.{Moved}
+use Rattle.solve_rule1.specs.Carried.{First, Moved}
 use Rattle.solve_rule1.specs.Step.{Stepped}
-use Rattle.solve_rule1.proofs.SolvedTables.{few, hangs_is}
-
--- one node more
-
--- the nodes below z are as after the move, the others as before
-pub record Moving (z from stays to : ℕ) (old new : List ℕ) : Type 0 where
-  pub long : length new ≡ length old
-  pub moved : Moved z from stays to old new
-  pub kept : (k : ℕ) → z ≤ k → get_or new k 0 ≡ get_or old k 0
-
-pub moving_start : (from stays to : ℕ) (old : List ℕ) → Moving (stays + 1) from stays to old old
-moving_start from stays to old =
-    record {
-      long = refl;
-      moved = λ k h. rw (le-ltb stays k (omega arith));
-      kept = λ k h. refl;
-    }
-
-pub moving_more : (z from stays to : ℕ) (old new : List ℕ) (x : ℕ) → stays < z → z < length old → Moving z from stays to old new
-    → x ≡ cond (eqb (get_or new z 0) from) to (get_or new z 0) → Moving (z + 1) from stays to old (set new z x)
-moving_more z from stays to old new x a h m e =
-    record {
-      long = length-set new z x ∙ m.long;
-      moved = λ k l.
-          ⊎_elim
-          (λ (i : k ≡ z).
-          rw (i, get_or-set_same new z x 0 (omega (arith, m.long)), e, m.kept z (omega arith), lt-ltb stays z a))
-          (λ (b : k < z).
-          rw (get_or-set_other new z k x 0 (λ i. omega (arith, i, b))) (m.moved k b))
-          (last_or_below (rw (add-one z) at l));
-      kept = λ k l. rw (get_or-set_other new z k x 0 (λ i. omega (arith, i, l))) (m.kept k (omega arith));
-    }
+use Rattle.solve_rule1.proofs.SolvedTables.{few, hangs_is, solved_length}
+use Rattle.solve_rule1.proofs.Choosing.{first_found}
 
 -- the step
+
+-- what is found is below n
+pub target_within : (n : ℕ) (p : ℕ → Bool) (r : Option ℕ) (v : ℕ) → First n p r → r ≡ Some v → v < n
+target_within n p None v f e = cc e
+target_within n p (Some w) v f e = let same : w ≡ v = cc e in rw (← same) f.0
 
 -- of the roots under a leaf those but the lowest are those after the lowest
 others_after : (n : ℕ) (q : ℕ → Bool) (z : ℕ) → z < n → (ltb (least n q) z && q z) ≡ (q z && not (eqb z (least n q)))
@@ -92,6 +67,19 @@ module _ (n : ℕ) (parents p : List ℕ) (s : Solved n parents p) (from : ℕ) 
       let g : Graph = s.sheet.graph in
       let b = root_below g (staying g p) (hangs_parts g p (problem_leaf g p) (staying g p) (staying_hangs g p t)).1 in
       omega (arith, staying_is, b, s.sheet.tables.nodes)
+
+  -- the root that stays is found, and so is the leaf that the others go to
+  pub staying_first : Problem s.sheet.graph p → (r : Option ℕ) → First (length p) (entry_is p from) r → r ≡ Some (least n (entry_is p from))
+  staying_first t r f = first_found n (entry_is p from) r (rw (solved_length n parents p s) at f) (staying_within t)
+
+  pub target_first : Problem s.sheet.graph p → (stays : ℕ) → stays ≡ least n (entry_is p from) → (r : Option ℕ) → First n (leaf_of s.sheet.graph stays) r
+      → r ≡ Some (lowest_leaf_of s.sheet.graph stays)
+  unfolding lowest_leaf_of
+  target_first t stays e r f =
+      let g : Graph = s.sheet.graph in
+      let is_root : root g stays ≡ true = rw (e, staying_is) (hangs_parts g p (problem_leaf g p) (staying g p) (staying_hangs g p t)).1 in
+      let is_leaf = leaf_of_parts g stays (lowest_leaf_of g stays) (lowest_leaf_of_lem g (well_formed_shaped s.sheet.tables.well_formed) stays is_root) in
+      first_found g.nodes (leaf_of g stays) r (rw s.sheet.tables.nodes at f) (leaf_below g (lowest_leaf_of g stays) is_leaf.0)
 
   pub shifted_is : (stays to : ℕ) (q : List ℕ) → stays ≡ least n (entry_is p from) → to ≡ lowest_leaf_of s.sheet.graph stays → length q ≡ n
       → Moved n from stays to p q → q ≡ shifted s.sheet.graph p

@@ -1,5 +1,5 @@
 -- Which roots a leaf carries, read off the bytes of a placing, and which leaf is chosen among those that carry several.
-use Rattle.std.specs.Prelude.{ℕ, ◌≤◌, ◌<◌, ◌≡◌, List, true, cond, ◌&&◌, eqb, leb, ltb, get_or}
+use Rattle.std.specs.Prelude.{ℕ, ◌≤◌, ◌<◌, ◌≡◌, List, Bool, true, false, Option, MatchOption, cond, ◌&&◌, eqb, leb, ltb, get_or}
 use Rattle.base_finite.specs.Below.{count}
 use Rattle.base_nodeset.specs.Set.{mem}
 use Rattle.base_nodeset.specs.declared.NodeSet.{NodeSet}
@@ -23,3 +23,7 @@ pub record Best (leaves : NodeSet) (deep : ℕ → ℕ) (l best : ℕ) : Type 0 
 abbrev pub Moved : ℕ → ℕ → ℕ → ℕ → List ℕ → List ℕ → Type 0
 Moved n from stays to old new =
     (z : ℕ) → z < n → get_or new z 0 ≡ cond (ltb stays z && eqb (get_or old z 0) from) to (get_or old z 0)
+
+-- the lowest number below n that p holds of
+abbrev pub First : ℕ → (ℕ → Bool) → Option ℕ → Type 0
+First n p r = MatchOption r ((k : ℕ) → k < n → p k ≡ false) (λ v. (v < n) × (p v ≡ true) × ((k : ℕ) → k < v → p k ≡ false))

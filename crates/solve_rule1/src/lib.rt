@@ -1,30 +1,30 @@
 // Rule 1: from a solved form to a configuration.
 #![tactic(auto)]
 
-ghost use Rattle.std.specs.Prelude.{◌≡◌, true, cond, ◌≤◌, ◌<◌, eqb, length, take};
-ghost use Rattle.base_finite.specs.Below.{any, least};
+ghost use Rattle.std.specs.Prelude.{◌≡◌, true, ◌<◌, length, take};
+ghost use Rattle.base_finite.specs.Below.{any};
 ghost use Rattle.base_nodeset.specs.Set.{mem};
 ghost use Rattle.graph.specs.Graph.{leaf_of};
-ghost use Rattle.graph.specs.Rule1.{up, depth, lowest_leaf_of, Rule1};
+ghost use Rattle.graph.specs.Rule1.{up, depth, Rule1};
 ghost use Rattle.base_tables.specs.Trees.{InnerSet};
 ghost use Rattle.solve_rule1.specs.Solved.{GraphOf, Solved};
 ghost use Rattle.base_finite.specs.Stores.{entry_is};
-ghost use Rattle.solve_rule1.specs.Carried.{Carrying, better, Best, Moved};
+ghost use Rattle.solve_rule1.specs.Carried.{Carrying, better, Best, First, Moved};
 ghost use Rattle.solve_rule1.specs.Step.{Stepped, Configured};
 
 use base_nodeset::NodeSet;
+use base_tables::Graph;
 use base_tables::trees::{inner_nodes, own};
 use graph::NONE;
 
 // The leaves that carry several roots.
-fn several(p: &[u8], n: usize) -> NodeSet
-    requires { length p.now ≡ n }
-    ensures { Carrying 2 n p.now result }
+fn several(p: &[u8]) -> NodeSet
+    ensures { Carrying 2 (length p.now) p.now result }
 {
     let mut once = NodeSet::empty();
     let mut twice = NodeSet::empty();
-    for v in 0..n {
-        let leaf = NodeSet::of_byte(p[v]);
+    for &byte in p {
+        let leaf = NodeSet::of_byte(byte);
         twice = once.intersection(leaf).union(twice);
         once = leaf.union(once);
     }
@@ -32,147 +32,129 @@ fn several(p: &[u8], n: usize) -> NodeSet
 }
 
 // The node above v, over a tree edge or a hanging.
-fn above(parent: &[u8], p: &[u8], n: usize, v: usize) -> u8
-    requires { Solved n parent.now p.now × (v < n) }
-    ensures { (s : Solved n parent.now p.now) → result ≡ up s.sheet.graph p.now v }
+fn above(graph: &Graph, p: &[u8], v: usize) -> u8
+    requires { Solved graph.now.n graph.now.parent p.now × (v < graph.now.n) }
+    ensures { (s : Solved graph.now.n graph.now.parent p.now) → result ≡ up s.sheet.graph p.now v }
 {
-    let over = parent[v];
+    let over = graph.parent[v];
     if over == NONE { p[v] } else { over }
 }
 
 // The edges from the top root down to v.
-fn edges_above(parent: &[u8], p: &[u8], n: usize, v: usize) -> usize
-    requires { Solved n parent.now p.now × (v < n) }
-    ensures { (s : Solved n parent.now p.now) → result ≡ depth s.sheet.graph p.now v }
+fn edges_above(graph: &Graph, p: &[u8], v: usize) -> usize
+    requires { Solved graph.now.n graph.now.parent p.now × (v < graph.now.n) }
+    ensures { (s : Solved graph.now.n graph.now.parent p.now) → result ≡ depth s.sheet.graph p.now v }
 {
     let mut at = v;
-    let mut edges = 0;
-    while edges < n {
-        let over = above(parent, p, n, at);
+    for edges in 0..graph.n {
+        let over = above(graph, p, at);
         if over == NONE {
             return edges;
         }
         at = over as usize;
-        edges += 1;
     }
-    edges
+    graph.n
 }
 
 // The leaf l, if it is less deep than the best before it.
-fn better_leaf(parent: &[u8], p: &[u8], n: usize, leaves: NodeSet, best: usize, l: usize) -> usize
-    requires { Solved n parent.now p.now × (best < n) × (l < n) }
-    ensures { (s : Solved n parent.now p.now) →
+#[tactic(auto, unfolding(crate::specs::Carried::better))]
+fn better_leaf(graph: &Graph, p: &[u8], leaves: NodeSet, best: usize, l: usize) -> usize
+    requires { Solved graph.now.n graph.now.parent p.now × (best < graph.now.n) × (l < graph.now.n) }
+    ensures { (s : Solved graph.now.n graph.now.parent p.now) →
         result ≡ better leaves (depth s.sheet.graph p.now) best l }
 {
-    if leaves.has(l) {
-        if edges_above(parent, p, n, l) < edges_above(parent, p, n, best) {
-            return l;
-        }
+    if leaves.has(l) && edges_above(graph, p, l) < edges_above(graph, p, best) {
+        l
+    } else {
+        best
     }
-    best
 }
 
 // Of the leaves the least deep, and of these the lowest.
-fn best_leaf(parent: &[u8], p: &[u8], n: usize, leaves: NodeSet) -> usize
-    requires { Solved n parent.now p.now × (any n (mem leaves) ≡ true) }
-    ensures { (result < n) ×
-        ((s : Solved n parent.now p.now) → Best leaves (depth s.sheet.graph p.now) n result) }
+fn best_leaf(graph: &Graph, p: &[u8], leaves: NodeSet) -> usize
+    requires { Solved graph.now.n graph.now.parent p.now × (any graph.now.n (mem leaves) ≡ true) }
+    ensures { (result < graph.now.n) ×
+        ((s : Solved graph.now.n graph.now.parent p.now) → Best leaves (depth s.sheet.graph p.now) graph.now.n result) }
 {
     let mut best = leaves.lowest();
-    for l in 0..n {
-        best = better_leaf(parent, p, n, leaves, best, l);
+    for l in 0..graph.n {
+        best = better_leaf(graph, p, leaves, best, l);
     }
     best
 }
 
 // The lowest root that the leaf carries.
-fn lowest_root(p: &[u8], n: usize, leaf: u8) -> usize
-    requires { length p.now ≡ n }
-    ensures { result ≡ least n (entry_is p.now leaf) }
+fn lowest_root(p: &[u8], leaf: u8) -> Option<usize>
+    ensures { First (length p.now) (entry_is p.now leaf) result }
 {
-    for v in 0..n {
-        if p[v] == leaf {
-            return v;
+    p.iter().position(|over| *over == leaf)
+}
+
+fn is_leaf_of(graph: &Graph, inner: NodeSet, root: usize, v: usize) -> bool
+    requires { GraphOf graph.now.n graph.now.parent × InnerSet graph.now.n graph.now.parent inner × (v < graph.now.n) }
+    ensures { (s : GraphOf graph.now.n graph.now.parent) → result ≡ leaf_of s.graph root v }
+{
+    !inner.has(v) && own(&graph.parent, graph.n, v) == root
+}
+
+fn lowest_leaf(graph: &Graph, inner: NodeSet, root: usize) -> Option<usize>
+    requires { GraphOf graph.now.n graph.now.parent × InnerSet graph.now.n graph.now.parent inner }
+    ensures { (s : GraphOf graph.now.n graph.now.parent) → First graph.now.n (leaf_of s.graph root) result }
+{
+    for v in 0..graph.n {
+        if is_leaf_of(graph, inner, root, v) {
+            return Some(v);
         }
     }
-    n
-}
-
-fn is_leaf_of(parent: &[u8], n: usize, inner: NodeSet, root: usize, v: usize) -> bool
-    requires { GraphOf n parent.now × InnerSet n parent.now inner × (v < n) }
-    ensures { (s : GraphOf n parent.now) → result ≡ leaf_of s.graph root v }
-{
-    if inner.has(v) {
-        return false;
-    }
-    own(parent, n, v) == root
-}
-
-fn lowest_leaf(parent: &[u8], n: usize, inner: NodeSet, root: usize) -> usize
-    requires { GraphOf n parent.now × InnerSet n parent.now inner }
-    ensures { (result ≤ n) × ((s : GraphOf n parent.now) → result ≡ lowest_leaf_of s.graph root) }
-{
-    for v in 0..n {
-        if is_leaf_of(parent, n, inner, root, v) {
-            return v;
-        }
-    }
-    n
-}
-
-fn moved(leaf: u8, from: u8, to: u8) -> u8
-    ensures { result ≡ cond (eqb leaf from) to leaf }
-{
-    if leaf == from { to } else { leaf }
+    None
 }
 
 // The root that stays is the first under its leaf: the others come after it.
-fn move_others(p: &mut [u8], n: usize, from: u8, stays: usize, to: u8)
-    requires { (length p.old ≡ n) × (stays < n) }
-    ensures { Moved n from stays to p.old p.new }
+fn move_others(p: &mut [u8], from: u8, stays: usize, to: u8)
+    requires { stays < length p.old }
+    ensures { Moved (length p.old) from stays to p.old p.new }
 {
-    for z in stays + 1..n {
-        p[z] = moved(p[z], from, to);
+    for leaf in &mut p[stays + 1..] {
+        if *leaf == from {
+            *leaf = to;
+        }
     }
 }
 
 // One step, if a leaf carries several roots.
-fn step(parent: &[u8], n: usize, inner: NodeSet, p: &mut [u8]) -> bool
-    requires { Solved n parent.now p.old × InnerSet n parent.now inner }
-    ensures { (s : Solved n parent.now p.old) →
+fn step(graph: &Graph, inner: NodeSet, p: &mut [u8]) -> bool
+    requires { Solved graph.now.n graph.now.parent p.old × InnerSet graph.now.n graph.now.parent inner }
+    ensures { (s : Solved graph.now.n graph.now.parent p.old) →
         Stepped s.sheet.graph p.old result p.new }
 {
-    let leaves = several(p, n);
+    let leaves = several(p);
     if leaves.is_empty() {
         return false;
     }
-    let from = best_leaf(parent, p, n, leaves) as u8;
-    let stays = lowest_root(p, n, from);
-    let to = lowest_leaf(parent, n, inner, stays) as u8;
-    move_others(p, n, from, stays, to);
+    let from = best_leaf(graph, p, leaves) as u8;
+    let stays = lowest_root(p, from).unwrap();
+    let to = lowest_leaf(graph, inner, stays).unwrap() as u8;
+    move_others(p, from, stays, to);
     true
 }
 
 // Each step puts a node below another that it was not below, so that n * n of them are enough.
-fn steps(parent: &[u8], n: usize, inner: NodeSet, p: &mut [u8])
-    requires { Solved n parent.now p.old × InnerSet n parent.now inner }
-    ensures { (s : Solved n parent.now p.old) → Rule1 s.sheet.graph p.old p.new }
+fn steps(graph: &Graph, inner: NodeSet, p: &mut [u8])
+    requires { Solved graph.now.n graph.now.parent p.old × InnerSet graph.now.n graph.now.parent inner }
+    ensures { (s : Solved graph.now.n graph.now.parent p.old) → Rule1 s.sheet.graph p.old p.new }
 {
-    let most = n * n;
-    let mut done = 0;
-    while done < most {
-        if !step(parent, n, inner, p) {
+    for _done in 0..graph.n * graph.n {
+        if !step(graph, inner, p) {
             return;
         }
-        done += 1;
     }
 }
 
 // Rule 1 on the first n bytes, until no leaf carries two roots.
-pub fn configure(parent: &[u8], n: usize, placing: &mut [u8])
-    requires { Solved n parent.now (take n placing.old) }
-    ensures { Configured n parent.now placing.old placing.new }
+pub fn configure(graph: &Graph, placing: &mut [u8])
+    requires { Solved graph.now.n graph.now.parent (take graph.now.n placing.old) }
+    ensures { Configured graph.now.n graph.now.parent placing.old placing.new }
 {
-    let inner = inner_nodes(parent, n);
-    steps(parent, n, inner, &mut placing[..n]);
+    let inner = inner_nodes(&graph.parent, graph.n);
+    steps(graph, inner, &mut placing[..graph.n]);
 }

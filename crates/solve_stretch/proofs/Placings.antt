@@ -7,6 +7,7 @@ use native.Mathlib.Omega.{arith}
 use lib.ListN.{length, take, drop, take-append-drop, length-append, length-drop}
 use lib.Seq.{length-take-le, take_all, drop-length, drop-drop, get_or-drop, take-append-add, drop-append-add}
 use borrow.Rule.Slice.PartMut.{mid_of, put_mid}
+use Rattle.base_nodeset.specs.declared.NodeSet.{NodeSet}
 use Rattle.graph.specs.Graph.{Graph}
 use Rattle.graph.specs.Order.{entry, limit}
 use Rattle.theory_list.specs.Readings.{listed}
@@ -15,7 +16,7 @@ use Rattle.solve_reduce.specs.Reduced.{LooplessForm}
 use Rattle.theory_walk.proofs.States.{at_below, at_entry}
 use Rattle.base_tables.specs.Trees.{TreesOf, Fits}
 use Rattle.base_tables.specs.declared.trees.Trees.{Trees}
-use Rattle.solve_levels.specs.Decisions.{reached}
+use Rattle.solve_levels.specs.Decisions.{Trail, reached}
 use Rattle.solve_levels.specs.Levels.{state}
 use Rattle.solve_branch.specs.States.{Stands}
 use Rattle.solve_levels.specs.declared.Level.{Level}
@@ -23,8 +24,8 @@ use Rattle.solve_branch.proofs.Walks.{stands_form, stands_trees}
 use Rattle.solve_numbered.proofs.Numbers.{reached_at, reached_only}
 use Rattle.base_finite.specs.Stores.{joined}
 use Rattle.solve_numbered.specs.Numbered.{Reaches}
-use Rattle.solve_numbered.specs.declared.Reached.{Reached}
-use Rattle.solve_numbered.specs.declared.Reached.TheVariants.{At, Only}
+use Rattle.std.specs.Prelude.{Option, Some, Result, Ok, Err}
+use Rattle.solve_numbered.specs.declared.TooFew.{TooFew}
 use Rattle.solve_stretch.specs.Stretch.{placings, Filled, StretchOf}
 
 joined_more : (ps : List (List ℕ)) (k : ℕ) → k < length ps → joined (take (suc k) ps) ≡ joined (take k ps) ++ entry ps k
@@ -113,9 +114,9 @@ handed_none g passed old =
       rest = refl;
     }
 
-module _ {g : Graph} {t : Trees} {owners : List ℕ} (f : Fits g t owners) {trail states : List ℕ} {at : Level} {last : ℕ} (x : Stands g trail states at last) where
+module _ {g : Graph} {t : Trees} (f : Fits g t) {trail : Trail} {states : List NodeSet} {at : Level} {last : ℕ} (x : Stands g trail states at last) where
   pub handed_more : (passed : ℕ) (old now₁ : List ℕ) (end : ℕ) (new : List ℕ) → end + t.n ≤ length now₁ → length new ≡ length now₁ → drop (end + t.n) new ≡ drop (end + t.n) now₁
-      → ((h : Graph) → TreesOf h t → LooplessForm h t.n (state t.n (at.open % 32) states) → take (end + t.n) new ≡ take end now₁ ++ settled h)
+      → ((h : Graph) → TreesOf h t → LooplessForm h t.n (state t.n (at.opened % 32) states) → take (end + t.n) new ≡ take end now₁ ++ settled h)
       → Handed g passed old last end now₁ → Handed g passed old (last + 1) (end + t.n) new
   handed_more passed old now₁ end new room same kept wrote h =
       record {
@@ -148,16 +149,19 @@ handed_all g passed old last end new some within full h =
 pub past_limit : (g : Graph) (passed : ℕ) (old : List ℕ) → limit ≤ passed → StretchOf g passed old passed old
 past_limit g passed old h = inl (omega (arith, h), refl, refl)
 
-module _ (g : Graph) (trail states : List ℕ) (passed : ℕ) {r : Reached} (x : Reaches g trail states (passed + 1) r) where
-  pub none_left : {all : ℕ} → r ≡ Only all → min (length (listed g)) limit ≤ passed
+module _ (g : Graph) (trail : Trail) (states : List NodeSet) (passed : ℕ) {r : Result Level TooFew} (x : Reaches g trail states (passed + 1) r) where
+  pub none_left : {few : TooFew} → r ≡ Err few → min (length (listed g)) limit ≤ passed
   none_left e =
       let y = reached_only g trail states (passed + 1) x e in
       omega (arith, y.0, y.1)
 
-  pub next_stands : {at : Level} → r ≡ At at → Stands g trail states at passed
+  pub next_stands : {at : Level} → r ≡ Ok at → Stands g trail states at passed
   next_stands {at} e =
       let same : passed + 1 - 1 ≡ passed = omega arith in
       subst (λ (k : ℕ). Stands g trail states at k) same (reached_at g trail states (passed + 1) x e)
 
-pub from_passed : {g : Graph} {p q last : ℕ} {old new : List ℕ} → p ≡ q → StretchOf g p old last new → StretchOf g q old last new
-from_passed {g} {last = last} {old} {new} e x = subst (λ (k : ℕ). StretchOf g k old last new) e x
+-- where the walk stands, as the code takes it out
+pub stands_taken : {g : Graph} {trail : Trail} {states : List NodeSet} {k : ℕ} {next : Option Level} {at taken : Level} → next ≡ Some at → next ≡ Some taken → Stands g trail states at k → Stands g trail states taken k
+stands_taken {g} {trail} {states} {k} {at = at} {taken = taken} e t x =
+    let same : at ≡ taken = grind arith in
+    subst (λ (l : Level). Stands g trail states l k) same x

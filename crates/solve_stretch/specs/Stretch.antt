@@ -1,5 +1,6 @@
 -- Readings one after the other in the lent bytes.
-use Rattle.std.specs.Prelude.{ℕ, ◌+◌, ◌-◌, ◌≤◌, ◌<◌, min, ◌≡◌, List, ◌++◌, true, false, ◌⊎◌, length, take, drop}
+use Rattle.std.specs.Prelude.{ℕ, ◌+◌, ◌-◌, ◌≤◌, ◌<◌, min, ◌≡◌, List, ◌++◌, ◌⊎◌, length, take, drop, Some, None}
+use Rattle.base_nodeset.specs.declared.NodeSet.{NodeSet}
 use Rattle.graph.specs.Graph.{Graph}
 use Rattle.graph.specs.Order.{limit}
 use Rattle.theory_list.specs.Readings.{listed}
@@ -7,24 +8,16 @@ use Rattle.base_finite.specs.Stores.{joined}
 use Rattle.solve_branch.specs.States.{Stands}
 use Rattle.solve_levels.specs.declared.Level.{Level}
 use Rattle.solve_stretch.specs.declared.Stop.{Stop}
+use Rattle.solve_levels.specs.Decisions.{Trail}
 
 -- the placings that come after the first `passed`, up to the number `last`
 abbrev pub placings : List (List ℕ) → ℕ → ℕ → List ℕ
 placings ps passed last = joined (take (last - passed) (drop passed ps))
 
--- where the walk is
-abbrev pub level_of : Stop → Level
-level_of r = record { depth = r.depth; «open» = r.open; kept = r.kept }
-
--- the walk stands at the next reading, or there is none with a number
-pub record Next (g : Graph) (trail states : List ℕ) (r : Stop) : Type 0 where
-  pub on : r.more ≡ true → Stands g trail states (level_of r) r.last
-  pub none : r.more ≡ false → min (length (listed g)) limit ≤ r.last
-
--- the same, and where there is none the last one passed is the last
-pub record Goes (g : Graph) (trail states : List ℕ) (r : Stop) : Type 0 where
-  pub on : r.more ≡ true → Stands g trail states (level_of r) r.last
-  pub ended : r.more ≡ false → r.last ≡ min (length (listed g)) limit
+-- the walk stands at the next reading, or the last one passed is the last with a number
+pub record Goes (g : Graph) (trail : Trail) (states : List NodeSet) (r : Stop) : Type 0 where
+  pub on : (at : Level) → r.next ≡ Some at → Stands g trail states at r.last
+  pub ended : r.next ≡ None → r.last ≡ min (length (listed g)) limit
 
 -- Those are written, one at least, and no more are left or there is no place for one more.
 pub record Filled (g : Graph) (passed : ℕ) (old : List ℕ) (last : ℕ) (new : List ℕ) : Type 0 where

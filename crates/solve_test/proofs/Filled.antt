@@ -1,5 +1,5 @@
 -- The tables that the test looks up: what is in them after each turn of the loops that fill them.
-use Prim.Native.Nat.{ℕ, ◌+◌, ◌*◌}
+use Prim.Native.Nat.{ℕ, zero, suc}
 use mathlib.Core.Path.{◌≡◌, sym, ◌∙◌}
 use mathlib.Core.List.{List}
 use mathlib.Core.Bool.{Bool, true, false, not, ◌&&◌, ◌||◌, true≢false}
@@ -9,30 +9,33 @@ use lib.Dec.{eqb}
 use lib.ListN.{get_or, replicate, length-replicate}
 use borrow.Author.Tests.{eq-eqb, eqb-true}
 use Rattle.base_finite.proofs.Laws.{by_bool, and_both, and_true, and_false, or_false, or_comm, or_cases, or_right, eqb_sym}
-use Rattle.base_finite.proofs.Stores.{zeros}
 use Rattle.base_nodeset.specs.Set.{mem, Empty, Only, Union, Intersection, Lowest}
 use Rattle.base_nodeset.specs.declared.NodeSet.{NodeSet}
 use Rattle.base_nodeset.proofs.Laws.{member_zero}
 use Rattle.base_nodeset.proofs.Members.{removed_member, removed_cases, removed_gone, removed_out}
 use Rattle.graph.specs.Graph.{Graph, leaf_of}
-use Rattle.base_tables.specs.Rows.{IsRow}
-use Rattle.base_tables.specs.Sets.{Long, in_row, RowPut}
+use Rattle.base_tables.specs.Rows.{nothing, Long, in_row, RowPut, IsRow}
 use Rattle.base_tables.specs.Trees.{Bounded, Owners, Fits}
 use Rattle.base_tables.specs.declared.trees.Trees.{Trees}
 use Rattle.solve_test.specs.Tables.{Blank, Put, PutAll, Owned, LeafRows, NearRows, Symmetric}
 
--- rows of zeros
+-- rows of empty sets
 
-pub blank_rows : (m : ℕ) → m ≡ 256 → Blank (replicate m 0)
-blank_rows m e =
+pub blank_rows : (m : ℕ) (z : NodeSet) → m ≡ 128 → Empty z → Blank (replicate m z)
+blank_rows m z e empty =
     record {
-      long = length-replicate m 0 ∙ e;
-      nothing = λ u v. rw (zeros m (2 * u), zeros m (2 * u + 1)) (member_zero v);
+      long = length-replicate m z ∙ e;
+      nothing = λ u v. empty_in m u v;
     }
+  where
+    empty_in : (k u v : ℕ) → mem (get_or (replicate k z) u nothing) v ≡ false
+    empty_in zero u v = member_zero v
+    empty_in (suc k) zero v = empty v
+    empty_in (suc k) (suc u) v = empty_in k u v
 
 -- a set put into a row
 
-pub put_row : (u : ℕ) (s row : NodeSet) {more : NodeSet} {rows rows' : List ℕ} → Long rows → IsRow (in_row rows) u row → Union row s more → RowPut u more rows rows' → Put (in_row rows) u s rows'
+pub put_row : (u : ℕ) (s row : NodeSet) {more : NodeSet} {rows rows' : List NodeSet} → Long rows → IsRow (in_row rows) u row → Union row s more → RowPut u more rows rows' → Put (in_row rows) u s rows'
 put_row u s row {rows = rows} long is un put =
     record {
       long = put.long ∙ long;
@@ -45,12 +48,12 @@ put_row u s row {rows = rows} long is un put =
 
 -- one node put into several rows
 
-pub record PutSo (old : ℕ → ℕ → Bool) (s : NodeSet) (f : ℕ) (left : NodeSet) (rows : List ℕ) : Type 0 where
+pub record PutSo (old : ℕ → ℕ → Bool) (s : NodeSet) (f : ℕ) (left : NodeSet) (rows : List NodeSet) : Type 0 where
   pub long : Long rows
   pub of_set : (k : ℕ) → mem left k ≡ true → mem s k ≡ true
   pub row_is : (a b : ℕ) → in_row rows a b ≡ ((mem s a && not (mem left a)) && eqb b f || old a b)
 
-pub put_start : (rows : List ℕ) (s : NodeSet) (f : ℕ) → Long rows → PutSo (in_row rows) s f s rows
+pub put_start : (rows : List NodeSet) (s : NodeSet) (f : ℕ) → Long rows → PutSo (in_row rows) s f s rows
 put_start rows s f long =
     record {
       long = long;
@@ -58,7 +61,7 @@ put_start rows s f long =
       row_is = λ a b. by_bool (mem s a) (λ t. rw t) (λ t. rw t);
     }
 
-pub put_more : (old : ℕ → ℕ → Bool) (s only : NodeSet) {left left' : NodeSet} (f : ℕ) {h : ℕ} {rows rows' : List ℕ} → Only f only → PutSo old s f left rows
+pub put_more : (old : ℕ → ℕ → Bool) (s only : NodeSet) {left left' : NodeSet} (f : ℕ) {h : ℕ} {rows rows' : List NodeSet} → Only f only → PutSo old s f left rows
     → Lowest left h left' → Put (in_row rows) h only rows' → PutSo old s f left' rows'
 put_more old s only f {h} is p first put =
     record {
@@ -74,7 +77,7 @@ put_more old s only f {h} is p first put =
           (λ (e : eqb a h ≡ false). rw e));
     }
 
-pub put_end : (old : ℕ → ℕ → Bool) (s : NodeSet) {left : NodeSet} (f : ℕ) {rows : List ℕ} → PutSo old s f left rows → Empty left → PutAll old s f rows
+pub put_end : (old : ℕ → ℕ → Bool) (s : NodeSet) {left : NodeSet} (f : ℕ) {rows : List NodeSet} → PutSo old s f left rows → Empty left → PutAll old s f rows
 put_end old s f p none =
     record {
       long = p.long;
@@ -83,12 +86,12 @@ put_end old s f p none =
 
 -- each leaf in the row of its owner: those gone through
 
-pub record LeafSo (leaves : NodeSet) (owners : List ℕ) (left : NodeSet) (rows : List ℕ) : Type 0 where
+pub record LeafSo (leaves : NodeSet) (owners : List ℕ) (left : NodeSet) (rows : List NodeSet) : Type 0 where
   pub long : Long rows
   pub of_leaves : (k : ℕ) → mem left k ≡ true → mem leaves k ≡ true
   pub row_is : (r x : ℕ) → in_row rows r x ≡ ((mem leaves x && not (mem left x)) && eqb (get_or owners x 0) r)
 
-pub leaves_start : (leaves : NodeSet) (owners : List ℕ) {rows : List ℕ} → Blank rows → LeafSo leaves owners leaves rows
+pub leaves_start : (leaves : NodeSet) (owners : List ℕ) {rows : List NodeSet} → Blank rows → LeafSo leaves owners leaves rows
 leaves_start leaves owners blank =
     record {
       long = blank.long;
@@ -96,7 +99,7 @@ leaves_start leaves owners blank =
       row_is = λ r x. blank.nothing r x ∙ by_bool (mem leaves x) (λ t. rw t) (λ t. rw t);
     }
 
-pub leaves_more : (leaves : NodeSet) (owners : List ℕ) (only : NodeSet) {left left' : NodeSet} {l : ℕ} {rows rows' : List ℕ} → Only l only → LeafSo leaves owners left rows
+pub leaves_more : (leaves : NodeSet) (owners : List ℕ) (only : NodeSet) {left left' : NodeSet} {l : ℕ} {rows rows' : List NodeSet} → Only l only → LeafSo leaves owners left rows
     → Lowest left l left' → Put (in_row rows) (get_or owners l 0) only rows' → LeafSo leaves owners left' rows'
 leaves_more leaves owners only {l = l} is so first put =
     record {
@@ -113,7 +116,7 @@ leaves_more leaves owners only {l = l} is so first put =
           (λ (e : eqb x l ≡ false). rw (e, and_false (eqb r (get_or owners l 0)))));
     }
 
-pub leaves_end : (leaves : NodeSet) (owners : List ℕ) {left : NodeSet} {rows : List ℕ} → LeafSo leaves owners left rows → Empty left → LeafRows (mem leaves) owners rows
+pub leaves_end : (leaves : NodeSet) (owners : List ℕ) {left : NodeSet} {rows : List NodeSet} → LeafSo leaves owners left rows → Empty left → LeafRows (mem leaves) owners rows
 leaves_end leaves owners so none =
     record {
       long = so.long;
@@ -121,16 +124,16 @@ leaves_end leaves owners so none =
     }
 
 -- they are the leaves of the fragments
-pub leaves_are : {g : Graph} {t : Trees} {owners rows : List ℕ} → Bounded t → Fits g t owners → LeafRows (mem t.leaves) owners rows → (r x : ℕ) → in_row rows r x ≡ leaf_of g r x
+pub leaves_are : {g : Graph} {t : Trees} {rows : List NodeSet} → Bounded t → Fits g t → LeafRows (mem t.leaves) t.owner rows → (r x : ℕ) → in_row rows r x ≡ leaf_of g r x
 unfolding leaf_of
-leaves_are {g} {t} {owners} bounded fits is r x =
+leaves_are {g} {t} bounded fits is r x =
     is.row_is r x
     ∙ by_bool (mem t.leaves x)
     (λ (e : mem t.leaves x ≡ true). rw (← (fits.trees.leaves_are x), e, fits.owners_are x (bounded.leaves_within x e)))
     (λ (e : mem t.leaves x ≡ false). rw (← (fits.trees.leaves_are x), e))
 
 -- each leaf is a node, and so is its owner
-pub leaves_owned : {t : Trees} {owners : List ℕ} → Owners t owners → Owned (mem t.leaves) owners
+pub leaves_owned : {t : Trees} → Owners t → Owned (mem t.leaves) t.owner
 leaves_owned {t} is l h =
     let small = is.bounded.leaves_within l h in
     let few = is.bounded.few in
@@ -142,12 +145,12 @@ abbrev pub NearBy : (ℕ → ℕ → Bool) → NodeSet → NodeSet → ℕ → �
 NearBy below roots left f h =
     (mem roots f ≡ true) × (mem roots h ≡ true) × (((mem left f ≡ false) × (below f h ≡ true)) ⊎ ((mem left h ≡ false) × (below h f ≡ true)))
 
-pub record NearSo (below : ℕ → ℕ → Bool) (roots left : NodeSet) (rows : List ℕ) : Type 0 where
+pub record NearSo (below : ℕ → ℕ → Bool) (roots left : NodeSet) (rows : List NodeSet) : Type 0 where
   pub long : Long rows
   pub of_roots : (k : ℕ) → mem left k ≡ true → mem roots k ≡ true
   pub near_is : (f h : ℕ) → (in_row rows f h ≡ true) ↔ NearBy below roots left f h
 
-pub near_start : (below : ℕ → ℕ → Bool) (roots : NodeSet) (rows : List ℕ) → Blank rows → NearSo below roots roots rows
+pub near_start : (below : ℕ → ℕ → Bool) (roots : NodeSet) (rows : List NodeSet) → Blank rows → NearSo below roots roots rows
 near_start below roots rows blank =
     record {
       long = blank.long;
@@ -165,7 +168,7 @@ near_start below roots rows blank =
 module _
     (below : ℕ → ℕ → Bool)
     (roots left left' row both : NodeSet)
-    (rows rows₁ rows₂ : List ℕ)
+    (rows rows₁ rows₂ : List NodeSet)
     (y : ℕ)
     (so : NearSo below roots left rows)
     (first : Lowest left y left')
@@ -242,7 +245,7 @@ module _
         near_is = λ a b. (near_found a b, near_put a b);
       }
 
-pub near_end : (below : ℕ → ℕ → Bool) (roots left : NodeSet) (rows : List ℕ) → NearSo below roots left rows → Empty left → NearRows below (mem roots) rows
+pub near_end : (below : ℕ → ℕ → Bool) (roots left : NodeSet) (rows : List NodeSet) → NearSo below roots left rows → Empty left → NearRows below (mem roots) rows
 near_end below roots left rows so none =
     record {
       long = so.long;
@@ -268,7 +271,7 @@ near_end below roots left rows so none =
       );
     }
 
-pub near_symmetric : (below : ℕ → ℕ → Bool) (roots : ℕ → Bool) (rows : List ℕ) → NearRows below roots rows → Symmetric (in_row rows)
+pub near_symmetric : (below : ℕ → ℕ → Bool) (roots : ℕ → Bool) (rows : List NodeSet) → NearRows below roots rows → Symmetric (in_row rows)
 near_symmetric below roots rows is f h e =
     let n = (is.near_is f h).0 e in
     (is.near_is h f).1 (n.1, n.0, ⊎_elim (λ (d : below f h ≡ true). inr d) (λ (d : below h f ≡ true). inl d) n.2)

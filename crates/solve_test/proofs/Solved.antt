@@ -18,14 +18,13 @@ use Rattle.theory_forest.proofs.Fragments.{leaf_of_parts}
 use Rattle.theory_solvable.proofs.Free.{OfRoots, Related, Joined, start as joined_start, step as joined_step, joined_member, Free, less, Eliminates, done, take}
 use Rattle.theory_solvable.proofs.Topmost.{stuck_unsolvable}
 use Rattle.theory_solvable.proofs.Eliminated.{eliminates_iff}
-use Rattle.base_tables.specs.Rows.{Closed}
-use Rattle.base_tables.specs.Sets.{Rows}
+use Rattle.base_tables.specs.Rows.{Rows, Closed}
 use Rattle.base_tables.proofs.Tops.{descent_closed}
 use Rattle.solve_test.specs.Tables.{Near, End, EndRows}
 use Rattle.solve_test.specs.Free.{Spread, start, step, others, FreeIn, Taking, none_taken, then_taken, Ended}
 
 -- rows of the whole relation are such rows
-pub end_rows : (g : Graph) {rows : List ℕ} → Rows (Descent g) rows → EndRows g rows
+pub end_rows : (g : Graph) {rows : List NodeSet} → Rows (Descent g) rows → EndRows g rows
 end_rows g rows = record { closed = descent_closed g rows; row_is = λ u v end. rows.row_is u v }
 
 -- the set without F

@@ -2,15 +2,14 @@
 // sheet of the input comes with its length, two bytes, before it. It is lent 64 records, just enough, and one too few.
 #![tactic(auto)]
 
-ghost use Rattle.std.specs.Prelude.{IfOk, ◌≡◌, ◌≤◌, ◌<◌, length, take, drop};
+ghost use Rattle.std.specs.Prelude.{IfOk, ◌≡◌, ◌≤◌, length, take, drop};
 ghost use Rattle.format.specs.Sheet.{outcome};
 ghost use Rattle.sheet_fragments.specs.Records.{Recorded};
 
 use base_text::{hex_line, refused_line};
 use counter::{fragment_table, fragments};
-use format::{Refusal, number};
+use format::Refusal;
 use graph::Fragment;
-use sheet_fragments::Table;
 use std::io;
 use std::io::Read;
 
@@ -20,7 +19,7 @@ const INPUT: u64 = 65536;
 // The answer, and all of the table afterwards.
 #[derive(Clone, Copy)]
 struct Lent {
-    answer: Table,
+    answer: Result<usize, Refusal>,
     table: [Fragment; 64],
 }
 
@@ -49,44 +48,10 @@ fn unwritten() -> Fragment {
 // The records as bytes, three each.
 fn bytes_of(table: [Fragment; 64]) -> [u8; 192] {
     let mut bytes = [0u8; 192];
-    for k in 0..64 {
-        let record = table[k];
-        bytes[3 * k] = record.root;
-        bytes[3 * k + 1] = record.lowest_leaf;
-        bytes[3 * k + 2] = record.leaves;
+    for (three, record) in bytes.chunks_exact_mut(3).zip(&table) {
+        three.copy_from_slice(&[record.root, record.lowest_leaf, record.leaves]);
     }
     bytes
-}
-
-fn same_from(first: &[u8], second: &[u8], start: usize) -> bool
-    requires { (length first.now ≡ 192) × (length second.now ≡ 192) }
-{
-    for i in start..192 {
-        if first[i] != second[i] {
-            return false;
-        }
-    }
-    true
-}
-
-// The number of the refusal, 0 for none.
-fn refusal(answer: Table) -> u8 {
-    match answer {
-        Table::Refused(why) => number(why),
-        Table::Filled(_) => 0,
-    }
-}
-
-// How many records the call says it has stored.
-fn stored(answer: Table) -> usize {
-    match answer {
-        Table::Refused(_) => 0,
-        Table::Filled(fragments) => fragments,
-    }
-}
-
-fn same_answer(first: Table, second: Table) -> bool {
-    refusal(first) == refusal(second) && stored(first) == stored(second)
 }
 
 fn print_refusal(rt: &impl Print, why: Refusal) -> io::Result<()> {
@@ -103,12 +68,12 @@ fn print_bytes(rt: &impl Print, bytes: &[u8]) -> io::Result<()>
     rt.write_all(&out[..end])
 }
 
-fn print_answer(rt: &impl Print, answer: Table, records: &[u8]) -> io::Result<()>
+fn print_answer(rt: &impl Print, answer: Result<usize, Refusal>, records: &[u8]) -> io::Result<()>
     requires { length records.now ≤ 192 }
 {
     match answer {
-        Table::Refused(why) => print_refusal(rt, why),
-        Table::Filled(_) => {
+        Err(why) => print_refusal(rt, why),
+        Ok(_) => {
             rt.write_all(b"records ")?;
             print_bytes(rt, records)
         }
@@ -128,11 +93,11 @@ fn print_table(rt: &impl Print, sheet: &[u8], room: usize) -> io::Result<usize>
     let before = bytes_of(table);
     let mut bytes = bytes_of(table);
     let other = fragment_table(sheet, &mut bytes[..3 * room]);
-    let fragments = stored(answer);
+    let fragments = answer.unwrap_or(0);
     if fragments <= 64 {
-        if same_answer(answer, other)
-            && same_from(&records, &bytes, 0)
-            && same_from(&records, &before, 3 * fragments)
+        if answer == other
+            && records == bytes
+            && records[3 * fragments..] == before[3 * fragments..]
         {
             print_answer(rt, answer, &records[..3 * fragments])?;
             return Ok(fragments);
@@ -151,23 +116,15 @@ fn print_sheet(rt: &impl Print, sheet: &[u8]) -> io::Result<()> {
     Ok(())
 }
 
-fn wide(byte: u8) -> usize
-    ensures { result < 256 }
-{
-    byte as usize
-}
-
 fn print_sheets(rt: &impl Print, input: &[u8]) -> io::Result<()> {
-    let mut at = 0;
-    while 2 <= input.len() - at {
-        let bytes = wide(input[at]) * 256 + wide(input[at + 1]);
-        let start = at + 2;
-        if input.len() - start < bytes {
+    let mut left = input;
+    while let [high, low, rest @ ..] = left {
+        let bytes = usize::from(*high) * 256 + usize::from(*low);
+        if rest.len() < bytes {
             return Ok(());
         }
-        let end = start + bytes;
-        print_sheet(rt, &input[start..end])?;
-        at = end;
+        print_sheet(rt, &rest[..bytes])?;
+        left = &rest[bytes..];
     }
     Ok(())
 }

@@ -1,110 +1,110 @@
 // A well-formed sheet, taken apart and grown.
 ghost use Rattle.std.specs.Prelude.{◌≤◌};
 
-use crate::build::NODES;
-use crate::table::{NONE, byte, put};
-
-// No sheet has more bytes.
+// No sheet has more bytes, nodes or dominance edges.
 const SHEET: usize = 2048;
 
-const TREE: usize = 2;
+pub const NODES: usize = 128;
 
-// Where the first edge stands.
+const EDGES: usize = 255;
+
+// Where the edges stand, three bytes each.
 const FIRST: usize = 2;
 
-// How many nodes are written.
-pub fn nodes_of(sheet: &[u8]) -> usize
-    ensures { result ≤ 128 }
-{
-    byte(sheet, 1) % (NODES + 1)
+// The kind of a tree edge. Higher kinds are dominance edges, and lower ones end the edges.
+const TREE: u8 = 2;
+
+// The byte that names no node, and that is read past the end.
+const NONE: u8 = 255;
+
+// A dominance edge.
+#[derive(Clone, Copy, PartialEq, Eq)]
+pub struct Edge {
+    pub leaf: usize,
+    pub root: usize,
 }
 
-// Whether the dominance edge is one of the first `number`.
-fn stands(leaves: &[u8], roots: &[u8], number: usize, from: usize, to: usize) -> bool {
-    for k in 0..number {
-        if byte(leaves, k) == from && byte(roots, k) == to {
-            return true;
-        }
-    }
-    false
-}
-
-// Of each node its parent, and of each dominance edge its leaf and its root, once; the number of dominance edges.
-pub fn unpack(sheet: &[u8], parent: &mut [u8], leaves: &mut [u8], roots: &mut [u8]) -> usize {
-    let mut number = 0;
-    let mut at = FIRST;
-    while at < SHEET {
-        let kind = byte(sheet, at);
-        if kind < TREE {
-            return number;
-        }
-        number = keep(sheet, at, parent, leaves, roots, number);
-        at += 3;
-    }
-    number
-}
-
-fn keep(
-    sheet: &[u8],
-    at: usize,
-    parent: &mut [u8],
-    leaves: &mut [u8],
-    roots: &mut [u8],
+#[derive(Drop)]
+pub struct Sheet {
+    // How many nodes there are, added leaves counted.
+    pub n: usize,
+    pub parents: [Option<usize>; NODES],
+    edges: [Edge; EDGES],
     number: usize,
-) -> usize {
-    if SHEET <= at {
-        return number;
-    }
-    let from = byte(sheet, at + 1);
-    let to = byte(sheet, at + 2);
-    if byte(sheet, at) == TREE {
-        put(parent, to, from);
-        return number;
-    }
-    if stands(leaves, roots, number, from, to) {
-        return number;
-    }
-    put(leaves, number, from);
-    put(roots, number, to);
-    std::num::wrapping_add_usize(number, 1)
+    ghost few_nodes: { n ≤ 128 },
+    ghost few_edges: { number ≤ 255 },
 }
 
-// Whether v, one of the n nodes that are written, has no tree edge.
-fn bare(parent: &[u8], n: usize, v: usize) -> bool {
-    if byte(parent, v) != NONE {
-        return false;
+impl Sheet {
+    pub fn read(sheet: &[u8]) -> Sheet {
+        let written = sheet.get(1).copied().unwrap_or(NONE);
+        let mut read = Sheet {
+            n: usize::from(written) % (NODES + 1),
+            parents: [None; NODES],
+            edges: [Edge { leaf: 0, root: 0 }; EDGES],
+            number: 0,
+        };
+        if let Some(commands) = sheet.get(FIRST..sheet.len().min(SHEET)) {
+            read.unpack(commands);
+        }
+        read.grow();
+        read
     }
-    for child in 0..n {
-        if byte(parent, child) == v {
-            return false;
+
+    // The dominance edges, each once.
+    pub fn edges(&self) -> &[Edge] {
+        &self.edges[..self.number]
+    }
+
+    fn unpack(&mut self, commands: &[u8]) {
+        for command in commands.chunks_exact(3) {
+            let &[kind, from, to] = command else {
+                return;
+            };
+            if kind < TREE {
+                return;
+            }
+            if kind == TREE {
+                self.add_child(from, usize::from(to));
+            } else {
+                self.add_edge(Edge {
+                    leaf: usize::from(from),
+                    root: usize::from(to),
+                });
+            }
         }
     }
-    true
-}
 
-// Adds a leaf with the next number to v if it is bare; the number after.
-fn add_leaf(parent: &mut [u8], n: usize, v: usize, next: usize) -> usize
-    requires { next ≤ 128 }
-    ensures { result ≤ 128 }
-{
-    if NODES <= next {
-        return next;
+    fn add_child(&mut self, from: u8, to: usize) {
+        if let Some(parent) = self.parents.get_mut(to) {
+            *parent = (from != NONE).then_some(usize::from(from));
+        }
     }
-    if !bare(parent, n, v) {
-        return next;
-    }
-    put(parent, next, v);
-    next + 1
-}
 
-// Adds the leaves of bare nodes, numbered from n upward by ascending node; how many nodes there are then.
-pub fn grow(parent: &mut [u8], n: usize) -> usize
-    requires { n ≤ 128 }
-    ensures { result ≤ 128 }
-{
-    let mut next = n;
-    for v in 0..n {
-        next = add_leaf(parent, n, v, next);
+    fn add_edge(&mut self, edge: Edge) {
+        if self.number < EDGES && !self.edges().contains(&edge) {
+            self.edges[self.number] = edge;
+            self.number += 1;
+        }
     }
-    next
+
+    // Whether v is the parent of one of the first `written` nodes.
+    fn has_child(&self, v: usize, written: usize) -> bool {
+        self.parents
+            .iter()
+            .take(written)
+            .any(|above| *above == Some(v))
+    }
+
+    // Adds the leaves of the nodes without tree edges, numbered upward by ascending node.
+    fn grow(&mut self) {
+        let written = self.n;
+        for v in 0..written {
+            let bare = self.parents[v].is_none() && !self.has_child(v, written);
+            if bare && self.n < NODES {
+                self.parents[self.n] = Some(v);
+                self.n += 1;
+            }
+        }
+    }
 }

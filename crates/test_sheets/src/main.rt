@@ -4,14 +4,12 @@
 
 mod calls;
 
-ghost use Rattle.std.specs.Prelude.{◌≤◌, ◌<◌, length};
+ghost use Rattle.std.specs.Prelude.{◌≤◌, length};
 
 use base_text::{hex_line, refused_line};
 use calls::refused_calls;
-use counter::{Measured, fragment_table, nodes, tidy};
+use counter::{fragment_table, nodes, tidy};
 use format::Refusal;
-use sheet_encode::Tidied;
-use sheet_fragments::Table;
 use std::io;
 use std::io::Read;
 
@@ -35,8 +33,8 @@ fn print_bytes(rt: &impl Print, bytes: &[u8]) -> io::Result<()>
 fn print_table(rt: &impl Print, sheet: &[u8]) -> io::Result<()> {
     let mut out = [0u8; 192];
     match fragment_table(sheet, &mut out) {
-        Table::Refused(why) => print_refusal(rt, why),
-        Table::Filled(fragments) => {
+        Err(why) => print_refusal(rt, why),
+        Ok(fragments) => {
             if fragments <= 64 {
                 rt.write_all(b"table ")?;
                 print_bytes(rt, &out[..3 * fragments])?;
@@ -48,8 +46,8 @@ fn print_table(rt: &impl Print, sheet: &[u8]) -> io::Result<()> {
 
 fn print_nodes(rt: &impl Print, sheet: &[u8]) -> io::Result<()> {
     match nodes(sheet) {
-        Measured::Refused(why) => print_refusal(rt, why),
-        Measured::Nodes(number) => println!(rt; "nodes {number}"),
+        Err(why) => print_refusal(rt, why),
+        Ok(number) => println!(rt; "nodes {number}"),
     }
 }
 
@@ -66,11 +64,11 @@ fn print_calls(rt: &impl Print, sheet: &[u8]) -> io::Result<()> {
 fn print_sheet(rt: &impl Print, sheet: &[u8]) -> io::Result<()> {
     let mut out = [0u8; 2048];
     match tidy(sheet, &mut out) {
-        Tidied::Refused(why) => {
+        Err(why) => {
             print_refusal(rt, why)?;
             print_calls(rt, sheet)
         }
-        Tidied::Length(bytes) => {
+        Ok(bytes) => {
             if bytes <= 2048 {
                 rt.write_all(b"tidy ")?;
                 print_bytes(rt, &out[..bytes])?;
@@ -81,23 +79,15 @@ fn print_sheet(rt: &impl Print, sheet: &[u8]) -> io::Result<()> {
     }
 }
 
-fn wide(byte: u8) -> usize
-    ensures { result < 256 }
-{
-    byte as usize
-}
-
 fn print_sheets(rt: &impl Print, input: &[u8]) -> io::Result<()> {
-    let mut at = 0;
-    while 2 <= input.len() - at {
-        let bytes = wide(input[at]) * 256 + wide(input[at + 1]);
-        let start = at + 2;
-        if input.len() - start < bytes {
+    let mut left = input;
+    while let [high, low, rest @ ..] = left {
+        let bytes = usize::from(*high) * 256 + usize::from(*low);
+        if rest.len() < bytes {
             return Ok(());
         }
-        let end = start + bytes;
-        print_sheet(rt, &input[start..end])?;
-        at = end;
+        print_sheet(rt, &rest[..bytes])?;
+        left = &rest[bytes..];
     }
     Ok(())
 }

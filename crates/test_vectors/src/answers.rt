@@ -1,12 +1,9 @@
 // The calls lent a part of a buffer, and tests of what they answer and leave there.
 ghost use Rattle.std.specs.Prelude.{◌≤◌};
 
-use capi_put::put_drawn;
+use capi_put::put;
 use check_placing::Answers;
-use counter::{
-    CycleChecked, Measured, Next, Place, Placed, PlacingChecked, check_cycle, check_placing,
-    configuration, drawing, nodes,
-};
+use counter::{Next, Place, Unplaced, check_cycle, check_placing, configuration, drawing, nodes};
 
 // What the lent bytes hold before a call.
 pub const MARK: u8 = 170;
@@ -15,16 +12,21 @@ pub fn fails(right: bool) -> usize {
     if right { 0 } else { 1 }
 }
 
+// The byte at a place, and 255 past the end.
+pub fn byte(table: &[u8], at: usize) -> u8 {
+    match table.get(at) {
+        Some(value) => *value,
+        None => 255,
+    }
+}
+
 pub fn plus(a: usize, b: usize) -> usize {
     std::num::wrapping_add_usize(a, b)
 }
 
 // How many nodes the sheet has, added leaves counted; 0 where it is refused.
 pub fn nodes_of(sheet: &[u8]) -> usize {
-    match nodes(sheet) {
-        Measured::Nodes(number) => number,
-        Measured::Refused(_) => 0,
-    }
+    nodes(sheet).unwrap_or(0)
 }
 
 // The bytes lent for a reading of a sheet with n nodes.
@@ -42,7 +44,7 @@ pub fn next_in(sheet: &[u8], place: Place, out: &mut [u8], bytes: usize) -> Next
     place.next(sheet, &mut out[0..bytes])
 }
 
-pub fn configuration_in(sheet: &[u8], out: &mut [u8], bytes: usize) -> Placed {
+pub fn configuration_in(sheet: &[u8], out: &mut [u8], bytes: usize) -> Result<(), Unplaced> {
     if out.len() < bytes {
         return configuration(sheet, out);
     }
@@ -62,7 +64,7 @@ pub fn untouched(out: &[u8], from: usize) -> bool {
 // Whether the drawing of the reading wanted has this number, and the bytes past it are as they were lent.
 pub fn drawn_as(sheet: &[u8], wanted: usize, out: &mut [u8], number: u8) -> bool {
     let mut bytes = 0;
-    if put_drawn(drawing(sheet, wanted, out), &mut bytes) != number {
+    if put(drawing(sheet, wanted, out), &mut bytes) != number {
         return false;
     }
     untouched(out, bytes as usize)
@@ -78,20 +80,14 @@ pub fn part(table: &[u8], bytes: usize) -> &[u8] {
 }
 
 pub fn is_cycle(sheet: &[u8], cycle: &[u8]) -> bool {
-    match check_cycle(sheet, cycle) {
-        CycleChecked::Answer(yes) => yes,
-        CycleChecked::Refused(_) => false,
-    }
+    check_cycle(sheet, cycle).unwrap_or(false)
 }
 
 // What the check says of a placing; three noes where it is refused.
 pub fn checked(sheet: &[u8], placing: &[u8]) -> Answers {
-    match check_placing(sheet, placing) {
-        PlacingChecked::Answers(answers) => answers,
-        PlacingChecked::Refused(_) => Answers {
-            solved: false,
-            configuration: false,
-            reading: false,
-        },
-    }
+    check_placing(sheet, placing).unwrap_or(Answers {
+        solved: false,
+        configuration: false,
+        reading: false,
+    })
 }

@@ -1,10 +1,9 @@
 // What is printed: lines for a sheet with a name, and the sums.
 use crate::Sums;
-use crate::answers::{MARK, nodes_of, part, plus};
-use capi_put::put_drawn;
+use crate::answers::{MARK, byte, nodes_of, part, plus};
+use capi_put::put;
 use counter::{Place, configuration, drawing};
 use std::io;
-use test_second::table::byte;
 
 fn text(rt: &impl Print, words: &[u8]) -> io::Result<()> {
     rt.write_all(words)
@@ -24,7 +23,7 @@ fn placing_line(rt: &impl Print, placing: &[u8], n: usize) -> io::Result<()> {
         text(rt, b" ")?;
         decimal(rt, v)?;
         text(rt, b":")?;
-        decimal(rt, leaf)?;
+        decimal(rt, leaf as usize)?;
     }
     text(rt, b"\n")
 }
@@ -33,8 +32,7 @@ fn reading_lines(rt: &impl Print, sheet: &[u8], readings: usize) -> io::Result<(
     let mut place = Place::start();
     for number in 0..readings {
         let mut out = [MARK; 256];
-        let next = place.next(sheet, &mut out);
-        place = next.place;
+        place = place.next(sheet, &mut out).place;
         decimal(rt, plus(number, 1))?;
         placing_line(rt, &out, nodes_of(sheet))?;
     }
@@ -45,7 +43,7 @@ fn drawing_line(rt: &impl Print, sheet: &[u8]) -> io::Result<()> {
     let mut page = [MARK; 1024];
     let answer = drawing(sheet, 1, &mut page);
     let mut bytes = 0;
-    put_drawn(answer, &mut bytes);
+    put(answer, &mut bytes);
     text(rt, b"drawing ")?;
     text(rt, part(&page, bytes as usize))?;
     text(rt, b"\n")
@@ -53,7 +51,7 @@ fn drawing_line(rt: &impl Print, sheet: &[u8]) -> io::Result<()> {
 
 fn configuration_line(rt: &impl Print, sheet: &[u8]) -> io::Result<()> {
     let mut out = [MARK; 256];
-    configuration(sheet, &mut out);
+    let _ = configuration(sheet, &mut out);
     text(rt, b"configuration")?;
     placing_line(rt, &out, nodes_of(sheet))
 }

@@ -9,11 +9,10 @@ mod refused;
 mod solved;
 mod trial;
 
-use answers::{fails, is_cycle, plus};
+use answers::{byte, fails, is_cycle, plus};
 use lines::{case, summary};
 use std::io;
 use std::io::Read;
-use test_second::table::byte;
 use trial::{Found, trial};
 
 // No more of the input is read.
@@ -29,7 +28,7 @@ pub struct Sums {
 
 // Where the field at a place ends: it has its length, two bytes, before it.
 fn end_of(input: &[u8], at: usize) -> usize {
-    let bytes = 256 * byte(input, at) + byte(input, plus(at, 1));
+    let bytes = 256 * byte(input, at) as usize + byte(input, plus(at, 1)) as usize;
     plus(plus(at, 2), bytes)
 }
 

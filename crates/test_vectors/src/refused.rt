@@ -1,17 +1,17 @@
 // Refusals: 10, and 9 with its cycle. Each function tells whether the answers are as they must be.
 use crate::answers::{MARK, configuration_in, drawn_as, is_cycle, lent, next_in, part, untouched};
-use capi_put::{put_count, put_next, put_placed, put_placing};
+use capi_put::{put, put_next, put_placed};
 use counter::{Place, check_placing, count};
 
 // So many bytes are too few for a reading and for a configuration. The place is still the start.
 fn too_few(sheet: &[u8], out: &mut [u8], bytes: usize) -> bool {
-    let mut place = 1;
-    let mut pairs = 0;
     let next = next_in(sheet, Place::start(), out, bytes);
-    if put_next(next, &mut place, &mut pairs) != 10 {
+    let mut after = 1;
+    let mut pairs = 0;
+    if put_next(next, &mut after, &mut pairs) != 10 {
         return false;
     }
-    if place != 0 {
+    if after != 0 {
         return false;
     }
     put_placed(configuration_in(sheet, out, bytes), &mut pairs) == 10
@@ -35,7 +35,7 @@ pub fn short_buffers(sheet: &[u8], n: usize) -> bool {
         return false;
     }
     let mut none = 0;
-    put_placing(check_placing(sheet, b""), &mut none) == 10
+    put(check_placing(sheet, b""), &mut none) == 10
 }
 
 // Whether the first c pairs are a simple hypernormal cycle of the sheet and the rest is as it was.
@@ -53,12 +53,12 @@ fn cycle_written(sheet: &[u8], out: &[u8], c: usize) -> bool {
 fn no_next(sheet: &[u8], n: usize) -> bool {
     let mut out = [MARK; 256];
     let next = next_in(sheet, Place::start(), &mut out, lent(n));
-    let mut place = 1;
+    let mut after = 1;
     let mut pairs = 0;
-    if put_next(next, &mut place, &mut pairs) != 9 {
+    if put_next(next, &mut after, &mut pairs) != 9 {
         return false;
     }
-    if place != 0 {
+    if after != 0 {
         return false;
     }
     cycle_written(sheet, &out, pairs as usize)
@@ -77,7 +77,7 @@ fn no_configuration(sheet: &[u8], n: usize) -> bool {
 // A sheet with no solved form.
 pub fn no_reading(sheet: &[u8], n: usize) -> bool {
     let mut none = 0;
-    if put_count(count(sheet), &mut none) != 9 {
+    if put(count(sheet), &mut none) != 9 {
         return false;
     }
     if !no_next(sheet, n) {

@@ -1,14 +1,15 @@
 // A sheet with solved forms: the count, the list, the configuration and drawings. Each function tells whether the answers are as
 // they must be.
-use crate::answers::{MARK, checked, configuration_in, drawn_as, lent, next_in, plus, untouched};
-use capi_put::{put_count, put_next, put_placed};
+use crate::answers::{
+    MARK, byte, checked, configuration_in, drawn_as, lent, next_in, plus, untouched,
+};
+use capi_put::{put, put_next, put_placed};
 use counter::{Place, configuration, count};
-use test_second::table::{byte, put};
 
 // 65,536 stands for every count that is larger than 65,535.
 pub fn same_count(sheet: &[u8], readings: usize) -> bool {
     let mut counted = 0;
-    if put_count(count(sheet), &mut counted) != 0 {
+    if put(count(sheet), &mut counted) != 0 {
         return false;
     }
     counted == readings as u64
@@ -44,7 +45,9 @@ fn new_row(table: &[u8], rows: usize, placing: &[u8], n: usize, seen: &mut [u8])
     if byte(seen, row) != 0 {
         return false;
     }
-    put(seen, row, 1);
+    if let Some(place) = seen.get_mut(row) {
+        *place = 1;
+    }
     true
 }
 
@@ -126,7 +129,7 @@ pub fn configured(sheet: &[u8], n: usize) -> bool {
 // The check of a placing calls the configuration a reading just where the second solver lists it.
 pub fn same_verdict(sheet: &[u8], n: usize, table: &[u8], rows: usize) -> bool {
     let mut out = [MARK; 256];
-    configuration(sheet, &mut out);
+    let _ = configuration(sheet, &mut out);
     let listed = row_of(table, rows, &out, n) < rows;
     let answers = checked(sheet, &out);
     answers.reading == listed

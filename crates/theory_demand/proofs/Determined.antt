@@ -16,30 +16,29 @@ use Rattle.theory_rule1.proofs.Ending.{rule1_function}
 use Rattle.solve_answer.proofs.Answering.{has_none, reaches}
 use Rattle.solve_answer.proofs.Texts.{text_from_drawing}
 use Rattle.solve_answer.specs.Calls.{reach, placed_number, Counts, ReadingCall, ConfigurationCall, DrawingCall, TextCall}
-use Rattle.solve_answer.specs.declared.Counted.{Counted}
-use Rattle.solve_answer.specs.declared.Counted.TheVariants.{Readings}
-use Rattle.solve_answer.specs.declared.Placed.{Placed}
-use Rattle.solve_answer.specs.declared.Drawn.{Drawn}
-use Rattle.solve_answer.specs.declared.Drawn.TheVariants.{Length}
 use Rattle.counter.specs.Numbers.{First, Numbered}
 use Rattle.theory_demand.specs.Demand.{as_no_reading}
+use Rattle.std.specs.Prelude.{Result, Ok}
+use Rattle.graph.specs.declared.Count.{Count}
+use Rattle.format.specs.declared.Refusal.{Refusal}
+use Rattle.solve_answer.specs.declared.Unplaced.{Unplaced}
 
 -- the same answer and bytes, but for the choice of the cycle
-pub record Same (r r' : Placed) (new new' : List ℕ) : Type 0 where
+pub record Same (r r' : Result (Unit {0}) Unplaced) (new new' : List ℕ) : Type 0 where
   pub number : placed_number r ≡ placed_number r'
   pub but_for_a_cycle : (placed_number r ≡ as_no_reading → ⊥) → (r ≡ r') × (new ≡ new')
 
-pub same_bytes : {r : Placed} {new new' : List ℕ} → new ≡ new' → Same r r new new'
+pub same_bytes : {r : Result (Unit {0}) Unplaced} {new new' : List ℕ} → new ≡ new' → Same r r new new'
 same_bytes e = record { number = refl; but_for_a_cycle = λ n. (refl, e) }
 
 module _ {g : Graph} (s : Shaped g) where
-  pub count_determined : {r r' : Counted} → Counts g r → Counts g r' → r ≡ r'
+  pub count_determined : {r r' : Result Count Refusal} → Counts g r → Counts g r' → r ≡ r'
   count_determined (Counts.none u) (Counts.none u') = refl
   count_determined (Counts.none u) (Counts.counted ps l h) = absurd (has_none u l h)
   count_determined (Counts.counted ps l h) (Counts.none u) = absurd (has_none u l h)
-  count_determined (Counts.counted ps l h) (Counts.counted qs k h') = ap (λ (z : List (List ℕ)). Readings (count_answer (length z))) (listing_unique g s l k)
+  count_determined (Counts.counted ps l h) (Counts.counted qs k h') = ap (λ (z : List (List ℕ)). Ok (count_answer (length z))) (listing_unique g s l k)
 
-  pub reading_determined : {m m₁ m₂ : ℕ} {old new new' : List ℕ} {r r' : Placed} → ReadingCall g m old r m₁ new → ReadingCall g m old r' m₂ new'
+  pub reading_determined : {m m₁ m₂ : ℕ} {old new new' : List ℕ} {r r' : Result (Unit {0}) Unplaced} → ReadingCall g m old r m₁ new → ReadingCall g m old r' m₂ new'
       → (m₁ ≡ m₂) × Same r r' new new'
   reading_determined (ReadingCall.small f) (ReadingCall.small f') = (refl, same_bytes refl)
   reading_determined (ReadingCall.small f) (ReadingCall.none f' u c) = absurd (omega arith)
@@ -63,7 +62,7 @@ module _ {g : Graph} (s : Shaped g) where
   handed_same {q} d d' =
       rule1_function (subst (λ (z : List (List ℕ)). Rule1 g (entry z 0) q) (listing_unique g s d.listing d'.listing) d.reached) d'.reached
 
-  pub configuration_determined : {old new new' : List ℕ} {r r' : Placed} → ConfigurationCall g old r new → ConfigurationCall g old r' new' → Same r r' new new'
+  pub configuration_determined : {old new new' : List ℕ} {r r' : Result (Unit {0}) Unplaced} → ConfigurationCall g old r new → ConfigurationCall g old r' new' → Same r r' new new'
   configuration_determined (ConfigurationCall.small f) (ConfigurationCall.small f') = same_bytes refl
   configuration_determined (ConfigurationCall.small f) (ConfigurationCall.none f' u c) = absurd (omega arith)
   configuration_determined (ConfigurationCall.small f) (ConfigurationCall.configured q f' o d) = absurd (omega arith)
@@ -80,7 +79,7 @@ module _ {g : Graph} (s : Shaped g) where
   outside l l' (inr e) h b = omega (arith, reaches s l l')
 
   -- a drawing, or a term, writes no cycle, so nothing is left open
-  pub text_determined : {least : ℕ} {text : List ℕ → List ℕ} {k : ℕ} {old new new' : List ℕ} {r r' : Drawn} → TextCall least text g k old r new → TextCall least text g k old r' new' → (r ≡ r') × (new ≡ new')
+  pub text_determined : {least : ℕ} {text : List ℕ → List ℕ} {k : ℕ} {old new new' : List ℕ} {r r' : Result ℕ Refusal} → TextCall least text g k old r new → TextCall least text g k old r' new' → (r ≡ r') × (new ≡ new')
   text_determined (TextCall.small f) (TextCall.small f') = (refl, refl)
   text_determined (TextCall.small f) (TextCall.none f' u) = absurd (omega arith)
   text_determined (TextCall.small f) (TextCall.beyond ps f' l h b) = absurd (omega arith)
@@ -98,11 +97,11 @@ module _ {g : Graph} (s : Shaped g) where
   text_determined (TextCall.drawn ps f l h b) (TextCall.beyond qs f' l' h' b') = absurd (outside l' l b' h b)
   text_determined {text = text} {k} {old} (TextCall.drawn ps f l h b) (TextCall.drawn qs f' l' h' b') =
       let e = listing_unique g s l l' in (
-        ap (λ (z : List (List ℕ)). Length (length (text (entry z (k - 1))))) e,
+        ap (λ (z : List (List ℕ)). Ok (length (text (entry z (k - 1))))) e,
         ap (λ (z : List (List ℕ)). text (entry z (k - 1)) ++ drop (length (text (entry z (k - 1)))) old) e,
       )
 
-  pub drawing_determined : {k : ℕ} {old new new' : List ℕ} {r r' : Drawn} → DrawingCall g k old r new → DrawingCall g k old r' new' → (r ≡ r') × (new ≡ new')
+  pub drawing_determined : {k : ℕ} {old new new' : List ℕ} {r r' : Result ℕ Refusal} → DrawingCall g k old r new → DrawingCall g k old r' new' → (r ≡ r') × (new ≡ new')
   drawing_determined d d' = text_determined (text_from_drawing d) (text_from_drawing d')
 
 -- The second promise of each call fixes the number: one condition is the first to hold, or none does.

@@ -18,9 +18,10 @@ use Rattle.theory_forest.specs.Shape.{Shaped}
 use Rattle.theory_list.proofs.Readings.{listing_unique, listing_exists, unsolvable_empty}
 use Rattle.graph.specs.Placing.{Unsolvable}
 use Rattle.solve_answer.specs.Calls.{reach, ReadingCall}
-use Rattle.solve_answer.specs.declared.Placed.{Placed}
 use Rattle.theory_demand.specs.Demand.{Call, Chain, unless_refused, handed_out, lent_enough}
 use Rattle.theory_forest.proofs.Forests.{placing_length}
+use Rattle.std.specs.Prelude.{Result}
+use Rattle.solve_answer.specs.declared.Unplaced.{Unplaced}
 
 -- the readings that k calls lent enough hand out from the place m on
 abbrev next : List (List ℕ) → ℕ → ℕ → List (List ℕ)
@@ -49,7 +50,7 @@ module _ (g : Graph) (s : Shaped g) (ps : List (List ℕ)) (l : Listing g ps) wh
       rw (count, split, add-one)
 
   -- one call, the others handing out as they should
-  pub one_call : {m m' : ℕ} {old new : List ℕ} {r : Placed} → ReadingCall g m old r m' new → m ≤ reach ps → (k : ℕ)
+  pub one_call : {m m' : ℕ} {old new : List ℕ} {r : Result (Unit {0}) Unplaced} → ReadingCall g m old r m' new → m ≤ reach ps → (k : ℕ)
       → (m' ≤ reach ps) × (unless_refused r (take g.nodes new) (next ps k m') ≡ next ps (one_enough g.nodes old + k) m)
   unfolding unless_refused
   one_call {m} {old = old} (ReadingCall.small f) h k = (h, rw (lt-leb (2 * g.nodes) (length old), zero-add))

@@ -32,10 +32,11 @@ use Rattle.theory_cycle.proofs.Theorem62.{unsolvable_cycle}
 use Rattle.solve_answer.proofs.Answering.{some_listed}
 use Rattle.solve_answer.proofs.Texts.{drawing_from_text}
 use Rattle.solve_answer.specs.Calls.{reach, CycleWritten, Counts, ReadingCall, ConfigurationCall, DrawingCall, TextCall}
-use Rattle.solve_answer.specs.declared.Counted.{Counted}
-use Rattle.solve_answer.specs.declared.Placed.{Placed}
-use Rattle.solve_answer.specs.declared.Drawn.{Drawn}
 use Rattle.theory_demand.specs.Demand.{Call, Chain}
+use Rattle.std.specs.Prelude.{Result}
+use Rattle.graph.specs.declared.Count.{Count}
+use Rattle.format.specs.declared.Refusal.{Refusal}
+use Rattle.solve_answer.specs.declared.Unplaced.{Unplaced}
 
 -- a cycle has an even number of bytes
 even_bytes : (g : Graph) (bs : List ℕ) → cycle g bs ≡ true → length bs % 2 ≡ 0
@@ -86,13 +87,13 @@ module _ (g : Graph) (s : Shaped g) where
         },
       )
 
-  pub count_possible : (r : Counted) × Counts g r
+  pub count_possible : (r : Result Count Refusal) × Counts g r
   count_possible =
       dite (solvable_decided g s)
       (λ o. (_, Counts.counted (listed g) (listing_exists g s) (some_listed g s o)))
       (λ u. (_, Counts.none u))
 
-  pub reading_possible : (m : ℕ) (old : List ℕ) → (r : Placed) × (m' : ℕ) × (new : List ℕ) × ReadingCall g m old r m' new
+  pub reading_possible : (m : ℕ) (old : List ℕ) → (r : Result (Unit {0}) Unplaced) × (m' : ℕ) × (new : List ℕ) × ReadingCall g m old r m' new
   reading_possible m old =
       dite (dec_le (2 * g.nodes) (length old))
       (λ f.
@@ -104,7 +105,7 @@ module _ (g : Graph) (s : Shaped g) where
       (λ u. let w = cycle_writes old f u in (_, _, _, ReadingCall.none f u w.2)))
       (λ f. (_, _, _, ReadingCall.small (omega arith)))
 
-  pub configuration_possible : (old : List ℕ) → (r : Placed) × (new : List ℕ) × ConfigurationCall g old r new
+  pub configuration_possible : (old : List ℕ) → (r : Result (Unit {0}) Unplaced) × (new : List ℕ) × ConfigurationCall g old r new
   configuration_possible old =
       dite (dec_le (2 * g.nodes) (length old))
       (λ f.
@@ -116,7 +117,7 @@ module _ (g : Graph) (s : Shaped g) where
       (λ u. let w = cycle_writes old f u in (_, _, ConfigurationCall.none f u w.2)))
       (λ f. (_, _, ConfigurationCall.small (omega arith)))
 
-  pub text_possible : (least : ℕ) (text : List ℕ → List ℕ) (k : ℕ) (old : List ℕ) → (r : Drawn) × (new : List ℕ) × TextCall least text g k old r new
+  pub text_possible : (least : ℕ) (text : List ℕ → List ℕ) (k : ℕ) (old : List ℕ) → (r : Result ℕ Refusal) × (new : List ℕ) × TextCall least text g k old r new
   text_possible least text k old =
       dite (dec_le least (length old))
       (λ f.
@@ -132,7 +133,7 @@ module _ (g : Graph) (s : Shaped g) where
       (λ u. (_, _, TextCall.none f u)))
       (λ f. (_, _, TextCall.small (omega arith)))
 
-  pub drawing_possible : (k : ℕ) (old : List ℕ) → (r : Drawn) × (new : List ℕ) × DrawingCall g k old r new
+  pub drawing_possible : (k : ℕ) (old : List ℕ) → (r : Result ℕ Refusal) × (new : List ℕ) × DrawingCall g k old r new
   drawing_possible k old = let x = text_possible 1024 (drawing g) k old in (x.0, x.1, drawing_from_text x.2)
 
 -- the buffers that the calls are lent

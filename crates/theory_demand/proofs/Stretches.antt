@@ -19,15 +19,16 @@ use Rattle.theory_list.proofs.Readings.{listing_unique, listing_exists, solvable
 use Rattle.solve_stretch.specs.Stretch.{placings}
 use Rattle.solve_stretch.proofs.Placings.{placings_one, placings_more}
 use Rattle.solve_answer.specs.Calls.{reach, StretchCall}
-use Rattle.solve_answer.specs.declared.Placed.{Placed}
-use Rattle.solve_answer.specs.declared.Placed.TheVariants.{Refused}
 use Rattle.solve_answer.proofs.Answering.{has_none, reaches, some_listed, reading_long, no_later}
 use Rattle.counter.specs.Calls.{StretchOf}
 use Rattle.theory_demand.proofs.Determined.{Same, same_bytes}
 use Rattle.theory_demand.proofs.Possible.{cycle_writes}
+use Rattle.std.specs.Prelude.{Result, Err}
+use Rattle.solve_answer.specs.declared.Unplaced.{Unplaced}
+use Rattle.solve_answer.specs.declared.Unplaced.TheVariants.{Refused}
 
 module _ {g : Graph} (s : Shaped g) where
-  pub stretch_determined : {room m m₁ m₂ : ℕ} {old new new' : List ℕ} {r r' : Placed} → StretchCall g room m old r m₁ new → StretchCall g room m old r' m₂ new'
+  pub stretch_determined : {room m m₁ m₂ : ℕ} {old new new' : List ℕ} {r r' : Result (Unit {0}) Unplaced} → StretchCall g room m old r m₁ new → StretchCall g room m old r' m₂ new'
       → (m₁ ≡ m₂) × Same r r' new new'
   stretch_determined (StretchCall.small f) (StretchCall.small f') = (refl, same_bytes refl)
   stretch_determined (StretchCall.small f) (StretchCall.none f' u c) = absurd (omega arith)
@@ -73,7 +74,7 @@ module _ {g : Graph} {ps : List (List ℕ)} (l : Listing g ps) {room m : ℕ} wh
       (λ none. record { last = last; some = some; within = omega (arith, e); fits = fits; full = inr (omega (arith, none)) })
 
 module _ (g : Graph) (s : Shaped g) where
-  pub stretch_possible : (m : ℕ) (old : List ℕ) → (r : Placed) × (m' : ℕ) × (new : List ℕ) × StretchCall g (length old) m old r m' new
+  pub stretch_possible : (m : ℕ) (old : List ℕ) → (r : Result (Unit {0}) Unplaced) × (m' : ℕ) × (new : List ℕ) × StretchCall g (length old) m old r m' new
   stretch_possible m old =
       dite (dec_le (2 * g.nodes) (length old))
       (λ f.
@@ -91,10 +92,10 @@ module _ (g : Graph) (s : Shaped g) where
       (λ u. let w = cycle_writes g s old f u in (_, _, _, StretchCall.none f u w.2)))
       (λ f. (_, _, _, StretchCall.small (omega arith)))
 
-outcome_filled : (o : Outcome) → ((x : Content) → o ≡ accepted x → Shaped x.graph) → (m : ℕ) (old : List ℕ) → (r : Placed) × (m' : ℕ) × (new : List ℕ) × StretchOf o m old r m' new
-outcome_filled (refused why) shaped m old = (Refused why, m, old, (refl, refl, refl))
+outcome_filled : (o : Outcome) → ((x : Content) → o ≡ accepted x → Shaped x.graph) → (m : ℕ) (old : List ℕ) → (r : Result (Unit {0}) Unplaced) × (m' : ℕ) × (new : List ℕ) × StretchOf o m old r m' new
+outcome_filled (refused why) shaped m old = (Err (Refused why), m, old, (refl, refl, refl))
 outcome_filled (accepted x) shaped m old = stretch_possible x.graph (shaped x refl) m old
 
 -- `Place::fill` can always answer
-pub fill_possible : (bs : List ℕ) (m : ℕ) (old : List ℕ) → (r : Placed) × (m' : ℕ) × (new : List ℕ) × StretchOf (outcome bs) m old r m' new
+pub fill_possible : (bs : List ℕ) (m : ℕ) (old : List ℕ) → (r : Result (Unit {0}) Unplaced) × (m' : ℕ) × (new : List ℕ) × StretchOf (outcome bs) m old r m' new
 fill_possible bs = outcome_filled (outcome bs) (λ x e. well_formed_shaped (accepted_well_formed bs x e))

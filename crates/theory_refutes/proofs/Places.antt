@@ -1,5 +1,5 @@
 -- The places of a cycle's bytes: where their nodes and kinds stand, and which node is next.
-use Prim.Native.Nat.{ℕ, ◌+◌, ◌*◌, ◌/◌, ◌%◌, ◌<◌}
+use Prim.Native.Nat.{ℕ, ◌+◌, ◌/◌, ◌%◌, ◌<◌}
 use mathlib.Core.Path.{◌≡◌, refl, sym, ap, subst, ◌∙◌}
 use mathlib.Core.List.{List}
 use mathlib.Core.Logic.{◌⊎◌, ⊎_elim}
@@ -12,10 +12,6 @@ use Rattle.theory_refutes.proofs.Cycles.{SameEdge, equal_places}
 pub pairs_are : (bs : List ℕ) → pairs bs ≡ length bs / 2
 unfolding pairs
 pairs_are bs = refl
-
-pub place_within : (bs : List ℕ) (i : ℕ) → i < pairs bs → 2 * i + 1 < length bs
-unfolding pairs
-place_within bs i h = omega arith
 
 pub next_inner : (bs : List ℕ) (i : ℕ) → i + 1 < pairs bs → next bs i ≡ node bs (i + 1)
 next_inner bs i h = ap (node bs) (mod-eq_of_lt h)

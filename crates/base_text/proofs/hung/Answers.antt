@@ -3,7 +3,7 @@ use borrow.Author.Rules.{rules}
 use mathlib.Core.List.{[], ◌∷◌}
 use native.Mathlib.Omega.{arith}
 use lib.ListN.{length-set}
-use Rattle.base_finite.proofs.Stores.{written_none, written_one, written_more, written_length}
+use Rattle.base_finite.proofs.Stores.{written_none, written_one, written_more}
 use Rattle.base_text.proofs.Lines.{pair_top, pair_is, pair_length}
 use Rattle.base_text.proofs.hung.Goals as goal
 
@@ -42,6 +42,3 @@ pub returns : goal.returns
 returns c =
     rw (pair_is c.args.leaf c.args.r (search rules))
     (written_more _ _ (32 ∷ []) _ _ _ _ _ (written_one _ _ _) (written_more _ _ _ _ _ _ _ _ c.small-colon.ensures (written_more _ _ (58 ∷ []) _ _ _ _ _ (written_one _ _ _) c.small.ensures)))
-
-pub shape_of-out : goal.shape_of-out
-shape_of-out c = written_length _ _ _ _ _ (returns c)

@@ -1,6 +1,6 @@
 -- The number, the hung roots and the line feed are stored one after the other.
 use native.Mathlib.Omega.{arith}
-use Rattle.base_finite.proofs.Stores.{written_more, written_byte, written_length}
+use Rattle.base_finite.proofs.Stores.{written_more, written_byte}
 use Rattle.base_text.proofs.Lines.{reading_is, reading_short}
 use Rattle.base_text.proofs.reading_line.Goals as goal
 
@@ -38,6 +38,3 @@ returns c = let a = c.args in
     let short = reading_short a.roots a.n a.placing.now a.k c.requires.0 (λ v. (c.type_inv.placing v).fits) in
     let d = c.decimal-after_number in
     let h = c.all_hung-end in record { written = rw reading_is (written_byte _ _ _ _ _ _ (written_more _ _ _ _ _ _ _ _ d.ensures h.ensures)); upper_bound = omega (arith, short, d.ensures.after, h.ensures.after) }
-
-pub shape_of-out : goal.shape_of-out
-shape_of-out c = written_length _ _ _ _ _ (returns c).written

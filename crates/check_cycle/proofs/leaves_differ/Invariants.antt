@@ -1,5 +1,5 @@
 -- The invariant: the set holds the leaves of the places passed, and none of them was met twice.
-use Prim.Native.Nat.{ℕ, ◌-◌, ◌≤◌, ◌<◌}
+use Prim.Native.Nat.{ℕ, ◌<◌}
 use mathlib.Core.Path.{◌≡◌}
 use mathlib.Core.Bool.{true}
 use Rattle.base_nodeset.specs.Set.{mem}
@@ -8,7 +8,4 @@ use Rattle.check_cycle.proofs.Scans.{used_before}
 use Rattle.check_cycle.proofs.leaves_differ.Given as goal
 
 abbrev pub invariant-loop-i : goal.invariant-loop-i
-invariant-loop-i l = (l.i ≤ l.pairs) × ((x : ℕ) → mem l.used x ≡ used_before l.low l.high l.cycle l.i x) × ((k : ℕ) → k < l.i → spare l.low l.high l.cycle k ≡ true)
-
-abbrev pub decreases-loop-i : goal.decreases-loop-i
-decreases-loop-i l = l.pairs - l.i
+invariant-loop-i l = ((x : ℕ) → mem l.used x ≡ used_before l.graph.heads l.cycle l.i x) × ((k : ℕ) → k < l.i → spare l.graph.heads l.cycle k ≡ true)

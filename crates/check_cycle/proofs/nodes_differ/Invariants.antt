@@ -1,5 +1,5 @@
 -- The invariant: the set holds the nodes of the places passed, and each of them was new.
-use Prim.Native.Nat.{ℕ, ◌-◌, ◌≤◌, ◌<◌}
+use Prim.Native.Nat.{ℕ, ◌<◌}
 use mathlib.Core.Path.{◌≡◌}
 use mathlib.Core.Bool.{true}
 use Rattle.base_nodeset.specs.Set.{mem}
@@ -8,7 +8,4 @@ use Rattle.check_cycle.proofs.Scans.{seen_before}
 use Rattle.check_cycle.proofs.nodes_differ.Given as goal
 
 abbrev pub invariant-loop-i : goal.invariant-loop-i
-invariant-loop-i l = (l.i ≤ l.pairs) × ((u : ℕ) → mem l.seen u ≡ seen_before l.cycle l.i u) × ((k : ℕ) → k < l.i → fresh l.n l.cycle k ≡ true)
-
-abbrev pub decreases-loop-i : goal.decreases-loop-i
-decreases-loop-i l = l.pairs - l.i
+invariant-loop-i l = ((u : ℕ) → mem l.seen u ≡ seen_before l.cycle l.i u) × ((k : ℕ) → k < l.i → fresh l.n l.cycle k ≡ true)

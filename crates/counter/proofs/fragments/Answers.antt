@@ -1,30 +1,18 @@
--- Each turn stores one record more. With all of them stored, `prepares_recorded` says what the table is.
-use Rattle.std.proofs.Common.{◌≡◌, length, refl, ap, add-one, arith}
-use Rattle.sheet_fragments.proofs.Storing.{stores, length_stores, prepares_fits, prepares_recorded}
+-- The records that are prepared are stored, or the refusal's.
+use mathlib.Core.Path.{refl}
+use Rattle.std.proofs.lemmas.Result.{err_from_is_err_and}
 use Rattle.format.specs.Sheet.{outcome}
+use Rattle.sheet_fragments.proofs.Storing.{prepares_recorded, prepares_refused}
+use Rattle.counter.proofs.Numbers.{records_numbered}
 use Rattle.counter.proofs.fragments.Goals as goal
 
-pub loop-k-init : goal.loop-k-init
-unfolding stores
-loop-k-init c = record { stored = refl; some = omega arith }
+pub returns-in_err-records : goal.returns-in_err-records
+returns-in_err-records c =
+    let p = err_from_is_err_and c.from_residual.result c.from_residual.ensures.1 in
+    let refused = prepares_refused c.args.table.now (outcome c.args.sheet.now) _ c.in_err-records.ensures in
+    rw (p.1, p.2) (record { recorded = refused; records_numbered = records_numbered (outcome c.args.sheet.now) refused })
 
-pub bounds-table-k : goal.bounds-table-k
-bounds-table-k c =
-    let r = c.prepare-records.result in
-    let table = c.args.table.now in
-    omega (arith, ap length c.loop-k.invariant.stored, length_stores r.bytes table c.loop-k.k, prepares_fits (outcome c.args.sheet.now) table r c.prepare-records.ensures)
-
-pub loop-k-preserved : goal.loop-k-preserved
-unfolding stores
-loop-k-preserved c =
-    record {
-      stored = rw (c.loop-k.invariant.stored, c.record.ensures, add-one) refl;
-      some = omega arith;
-    }
-
-pub returns-clause-recorded : goal.returns-clause-recorded
-returns-clause-recorded c =
-    let r = c.prepare-records.result in
-    let table = c.args.table.now in
-    let all : c.loop-k.k ≡ r.count = omega arith in
-    rw (c.loop-k.invariant.stored, all) (prepares_recorded (outcome c.args.sheet.now) table r c.prepare-records.ensures)
+pub returns : goal.returns
+returns c =
+    let stored = prepares_recorded c.args.table.now (outcome c.args.sheet.now) _ _ c.in_ok-records.ensures (rw (c.copy_from_slice.ensures.after, c.as_slice.ensures.value) refl) in
+    record { recorded = stored; records_numbered = records_numbered (outcome c.args.sheet.now) stored }

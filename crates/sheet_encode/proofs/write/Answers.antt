@@ -4,45 +4,45 @@ use native.Mathlib.Omega.{arith}
 use lib.ListN.{length, length-set}
 use borrow.Author.Tests.{lt-ltb, le-ltb}
 use Rattle.format.specs.Sheet.{tidy}
-use Rattle.sheet_encode.specs.declared.Tidied.TheVariants.{Length}
-use Rattle.sheet_encode.proofs.GraphBytes.{held_parents, held_few, held_low, held_high, held_edges, held_trees, held_length, held_parts, all_written}
+use Rattle.std.specs.Prelude.{Ok}
+use Rattle.sheet_encode.proofs.GraphBytes.{held_parents, held_few, held_heads, held_edges, held_trees, held_length, held_parts, all_written}
 use Rattle.sheet_encode.proofs.write.Goals as goal
 
 pub tree_edges-requires : goal.tree_edges-requires
 tree_edges-requires c =
     let a = c.args in
     let tables = c.requires in
-    held_parents a.n a.parent.now a.low.now a.high.now a.edges tables
+    held_parents a.graph.now tables
 
 pub overflow_mul-needed : goal.overflow_mul-needed
 overflow_mul-needed c =
     let a = c.args in
     let tables = c.requires in
-    omega (arith, c.tree_edges.ensures, held_trees a.n a.parent.now a.low.now a.high.now a.edges tables, held_few a.n a.parent.now a.low.now a.high.now a.edges tables, held_edges a.n a.parent.now a.low.now a.high.now a.edges tables)
+    omega (arith, c.tree_edges.ensures, held_trees a.graph.now tables, held_few a.graph.now tables, held_edges a.graph.now tables)
 
 pub overflow_add-needed : goal.overflow_add-needed
 overflow_add-needed c =
     let a = c.args in
     let tables = c.requires in
-    omega (arith, c.tree_edges.ensures, held_trees a.n a.parent.now a.low.now a.high.now a.edges tables, held_few a.n a.parent.now a.low.now a.high.now a.edges tables, held_edges a.n a.parent.now a.low.now a.high.now a.edges tables)
+    omega (arith, c.tree_edges.ensures, held_trees a.graph.now tables, held_few a.graph.now tables, held_edges a.graph.now tables)
 
 pub overflow_add-needed-2 : goal.overflow_add-needed-2
 overflow_add-needed-2 c =
     let a = c.args in
     let tables = c.requires in
-    omega (arith, c.tree_edges.ensures, held_trees a.n a.parent.now a.low.now a.high.now a.edges tables, held_few a.n a.parent.now a.low.now a.high.now a.edges tables, held_edges a.n a.parent.now a.low.now a.high.now a.edges tables)
+    omega (arith, c.tree_edges.ensures, held_trees a.graph.now tables, held_few a.graph.now tables, held_edges a.graph.now tables)
 
 pub returns-then-out-needed : goal.returns-then-out-needed
 returns-then-out-needed c h =
     let a = c.args in
     let short = lt-ltb (length a.out.now) (length (tidy h.graph))
-    (omega (arith, c.tree_edges.ensures, held_length a.n a.parent.now a.low.now a.high.now a.edges h)) in
+    (omega (arith, c.tree_edges.ensures, held_length a.graph.now h)) in
     (rw short, rw short)
 
 pub overflow_cast-out : goal.overflow_cast-out
 overflow_cast-out c =
     let a = c.args in
-    omega (arith, held_few a.n a.parent.now a.low.now a.high.now a.edges c.requires)
+    omega (arith, held_few a.graph.now c.requires)
 
 pub bounds-out-1 : goal.bounds-out-1
 bounds-out-1 c = simp length-set (omega arith)
@@ -51,8 +51,8 @@ pub write_tree-after_tree-requires : goal.write_tree-after_tree-requires
 write_tree-after_tree-requires c =
     let a = c.args in
     let tables = c.requires in (
-      held_parents a.n a.parent.now a.low.now a.high.now a.edges tables,
-      simp length-set (omega (arith, c.tree_edges.ensures, held_length a.n a.parent.now a.low.now a.high.now a.edges tables, held_parts a.n a.parent.now a.low.now a.high.now a.edges tables)),
+      held_parents a.graph.now tables,
+      simp length-set (omega (arith, c.tree_edges.ensures, held_length a.graph.now tables, held_parts a.graph.now tables)),
     )
 
 pub write_dominance-end-requires : goal.write_dominance-end-requires
@@ -60,10 +60,9 @@ write_dominance-end-requires c =
     let a = c.args in
     let tables = c.requires in
     let t = c.write_tree-after_tree in (
-      held_few a.n a.parent.now a.low.now a.high.now a.edges tables,
-      held_low a.n a.parent.now a.low.now a.high.now a.edges tables,
-      held_high a.n a.parent.now a.low.now a.high.now a.edges tables,
-      omega (arith, t.ensures.after, c.tree_edges.ensures, held_length a.n a.parent.now a.low.now a.high.now a.edges tables, held_parts a.n a.parent.now a.low.now a.high.now a.edges tables, simp length-set at t.auto.out),
+      held_few a.graph.now tables,
+      held_heads a.graph.now tables,
+      omega (arith, t.ensures.after, c.tree_edges.ensures, held_length a.graph.now tables, held_parts a.graph.now tables, simp length-set at t.auto.out),
     )
 
 pub bounds-out-end : goal.bounds-out-end
@@ -72,7 +71,7 @@ bounds-out-end c =
     let tables = c.requires in
     let t = c.write_tree-after_tree in
     let d = c.write_dominance-end in
-    omega (arith, t.ensures.after, d.ensures.after, c.tree_edges.ensures, held_length a.n a.parent.now a.low.now a.high.now a.edges tables, held_parts a.n a.parent.now a.low.now a.high.now a.edges tables, simp length-set at t.auto.out, d.auto.out)
+    omega (arith, t.ensures.after, d.ensures.after, c.tree_edges.ensures, held_length a.graph.now tables, held_parts a.graph.now tables, simp length-set at t.auto.out, d.auto.out)
 
 pub shape_of-out : goal.shape_of-out
 shape_of-out c =
@@ -88,8 +87,8 @@ returns c h =
     let t = c.write_tree-after_tree in
     let d = c.write_dominance-end in
     let room : length (tidy h.graph) ≤ length a.out.now =
-    omega (arith, c.tree_edges.ensures, held_length a.n a.parent.now a.low.now a.high.now a.edges h) in
+    omega (arith, c.tree_edges.ensures, held_length a.graph.now h) in
     let fits = le-ltb (length a.out.now) (length (tidy h.graph)) room in (
-      rw fits (rw c.tree_edges.ensures (ap Length (held_length a.n a.parent.now a.low.now a.high.now a.edges h))),
-      rw fits (all_written a.n a.parent.now a.low.now a.high.now a.edges h a.out.now t.new.out d.new.out t.result d.result t.ensures d.ensures room),
+      rw fits (rw c.tree_edges.ensures (ap Ok (held_length a.graph.now h))),
+      rw fits (all_written a.graph.now h a.out.now t.new.out d.new.out t.result d.result t.ensures d.ensures room),
     )

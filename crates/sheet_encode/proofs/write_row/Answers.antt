@@ -7,28 +7,28 @@ use Rattle.sheet_encode.proofs.write_row.Goals as goal
 pub loop-r-init : goal.loop-r-init
 loop-r-init c = (refl, none_written _ _ _ _)
 
-pub returns-in_default : goal.returns-in_default
-returns-in_default c = all_written _ _ _ _ _ _ _ c.loop-r.invariant.1 (c.pop.ensures.empty c.in_default.is)
+pub returns : goal.returns
+returns c = all_written _ _ _ _ _ _ _ c.loop-r.invariant.1 (c.pop_first.ensures.empty c.in_default.is)
 
 pub overflow_cast-r : goal.overflow_cast-r
 overflow_cast-r c =
-    let first = c.pop.ensures.lowest _ _ c.in-Member.is in
+    let first = c.pop_first.ensures.lowest _ c.in-Some.is in
     omega arith
 
 pub put-requires : goal.put-requires
 put-requires c =
     let long : length c.loop-r.out ≡ length c.args.out.now = c.loop-r.invariant.0 in
-    omega (arith, member_room _ _ _ _ _ _ _ c.loop-r.invariant.1 _ _ (c.pop.ensures.lowest _ _ c.in-Member.is) c.requires)
+    omega (arith, member_room _ _ _ _ _ _ _ c.loop-r.invariant.1 _ _ (c.pop_first.ensures.lowest _ c.in-Some.is) c.requires)
 
 pub overflow_add-at : goal.overflow_add-at
 overflow_add-at c =
-    omega (arith, member_room _ _ _ _ _ _ _ c.loop-r.invariant.1 _ _ (c.pop.ensures.lowest _ _ c.in-Member.is) c.requires, c.well_formed)
+    omega (arith, member_room _ _ _ _ _ _ _ c.loop-r.invariant.1 _ _ (c.pop_first.ensures.lowest _ c.in-Some.is) c.requires, c.well_formed)
 
 pub loop-r-smaller : goal.loop-r-smaller
 loop-r-smaller c =
-    let first = c.pop.ensures.lowest _ _ c.in-Member.is in
+    let first = c.pop_first.ensures.lowest _ c.in-Some.is in
     omega arith
 
 pub loop-r-preserved : goal.loop-r-preserved
 loop-r-preserved c =
-    (c.put.auto.out ∙ c.loop-r.invariant.0, member_written _ _ _ _ _ _ _ c.loop-r.invariant.1 _ _ (c.pop.ensures.lowest _ _ c.in-Member.is) _ _ (record { stored = c.put.ensures; after = refl }))
+    (c.put.auto.out ∙ c.loop-r.invariant.0, member_written _ _ _ _ _ _ _ c.loop-r.invariant.1 _ _ (c.pop_first.ensures.lowest _ c.in-Some.is) _ _ (record { stored = c.put.ensures; after = refl }))

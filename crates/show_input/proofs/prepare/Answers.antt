@@ -1,26 +1,27 @@
--- No reading, or the tables that the walk starts from.
-use Prim.Native.Nat.{ℕ}
+-- The sheet's refusal, no reading, or the tables that the walk starts from.
 use mathlib.Core.Path.{refl}
-use native.Mathlib.Omega.{arith}
-use lib.ListN.{length-replicate}
-use borrow.Author.Tests.{not-true, not-false}
-use Rattle.solve_start.proofs.Starts.{parents_table}
-use Rattle.show_input.specs.Input.{no_reading, ready}
+use Rattle.std.proofs.lemmas.Result.{err_from_is_err_and}
+use Rattle.solve_start.proofs.Accepted.{sheet_of, tables_of}
+use Rattle.show_input.specs.Input.{Prepared}
 use Rattle.show_input.proofs.prepare.Goals as goal
 
-pub begin-begun-requires : goal.begin-begun-requires
-begin-begun-requires c = (c.requires.0, (parents_table c.requires.0).few, refl)
+pub begin-requires : goal.begin-requires
+begin-requires c =
+    let s = tables_of (sheet_of c.args.sheet.now _ c.in_ok-graph.ensures) in (s, refl)
 
-pub returns-then-not-begun : goal.returns-then-not-begun
-returns-then-not-begun c = λ s t. no_reading ((c.begin-begun.ensures.started (record { graph = s.graph; edges = _; tables = t })).unsolved (not-true _ c.if-not-begun.true)) c.refuse.ensures
+pub returns-in_err-graph : goal.returns-in_err-graph
+returns-in_err-graph c =
+    let p = err_from_is_err_and c.from_residual.result c.from_residual.ensures.1 in
+    rw (p.1, p.2, c.in_err-graph.ensures) (Prepared.refusal refl)
+
+pub returns-in_default : goal.returns-in_default
+returns-in_default c =
+    let x = sheet_of c.args.sheet.now _ c.in_ok-graph.ensures in
+    rw x.is (Prepared.no_reading ((c.begin.ensures.started (tables_of x)).unsolved c.in_default.is) refl)
 
 pub returns : goal.returns
 returns c =
-    λ s t.
-    ready
-    (record {
-      listed = refl;
-      long = omega (arith, c.begin-begun.auto.owner, length-replicate {0} {A = ℕ} 128 0);
-      walkable = (c.begin-begun.ensures.started (record { graph = s.graph; edges = _; tables = t })).solved (not-false _ c.if-not-begun.false);
-    })
-    refl
+    let x = sheet_of c.args.sheet.now _ c.in_ok-graph.ensures in
+    rw x.is
+    (Prepared.ready refl
+    (record { walkable = (c.begin.ensures.started (tables_of x)).solved _ c.in-Some.is }))

@@ -1,31 +1,20 @@
--- The bytes are read; the sheet's refusal, or what its tables come to.
-use mathlib.Core.Path.{sym}
+-- The bytes are judged; the line is written, and it is short.
+use mathlib.Core.Path.{refl, sym}
 use native.Mathlib.Omega.{arith}
-use lib.ListN.{take}
 use lib.Seq.{length-take-le}
-use Rattle.sheet_decode.proofs.Answers.{answered_refused}
-use Rattle.solve_start.proofs.Accepted.{sheet_of, tables_of}
-use Rattle.show_input.specs.Input.{refusal}
-use Rattle.show_input.proofs.Comes.{of_input}
+use Rattle.base_text.proofs.Lines.{refused_short}
+use Rattle.show_input.proofs.Comes.{line_shown, list_begun}
 use Rattle.show_input.proofs.read_input.Goals as goal
 
-pub slice_bounds-read-end : goal.slice_bounds-read-end
-slice_bounds-read-end c = sym (length-take-le _ c.args.input.now (omega (arith, c.requires)))
+pub slice_bounds-prepare-end : goal.slice_bounds-prepare-end
+slice_bounds-prepare-end c = sym (length-take-le _ c.args.input.now (omega (arith, c.requires)))
 
-pub prepare-requires : goal.prepare-requires
-prepare-requires c =
-    let a = c.args in
-    (tables_of (sheet_of (take a.got a.input.now) c.read-answer.result c.read-answer.ensures c.in-Accepted.is), c.requires.2)
+pub refused_line-requires : goal.refused_line-requires
+refused_line-requires c = omega (arith, refused_short c.in-Err.why, c.requires)
 
-pub returns-in-Refused : goal.returns-in-Refused
-returns-in-Refused c =
-    let a = c.args in
-    of_input (take a.got a.input.now)
-    (answered_refused (take a.got a.input.now) c.read-answer.result _ c.read-answer.ensures c.in-Refused.is)
-    (refusal c.refuse.ensures)
+pub returns-in-Ok : goal.returns-in-Ok
+returns-in-Ok c = list_begun c.in-Ok.ensures refl
 
-pub returns-in-Accepted : goal.returns-in-Accepted
-returns-in-Accepted c =
-    let a = c.args in
-    let x = sheet_of (take a.got a.input.now) c.read-answer.result c.read-answer.ensures c.in-Accepted.is in
-    of_input (take a.got a.input.now) x.is (c.prepare.ensures x.content x.tables)
+pub returns-in-Err : goal.returns-in-Err
+returns-in-Err c =
+    line_shown c.in-Err.ensures refl (record { written = c.refused_line.ensures; fits = omega (arith, refused_short c.in-Err.why, c.requires, c.refused_line.ensures.after) })

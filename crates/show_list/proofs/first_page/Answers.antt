@@ -13,5 +13,5 @@ count_line-bytes-requires c = omega (arith, count_short c.total-readings.result,
 pub returns : goal.returns
 returns c =
     λ g x.
-    begins x.walkable x.long _ c.walk-stop.ensures.last_lt_limit c.walk-stop.ensures.filled _ c.total-readings.ensures c.count_line-bytes.ensures
+    begins x.walkable _ c.walk-stop.ensures.last_lt_limit c.walk-stop.ensures.filled _ c.total-readings.ensures c.count_line-bytes.ensures
     (omega (arith, count_short c.total-readings.result, c.requires.in_bounds.3, c.count_line-bytes.ensures.after))

@@ -1,5 +1,5 @@
--- The lines of the readings up to k are written, and the next placing stands at its row.
-use Prim.Native.Nat.{◌+◌, ◌-◌, ◌*◌, ◌≤◌}
+-- The lines of the readings up to k are written.
+use Prim.Native.Nat.{◌+◌, ◌≤◌}
 use mathlib.Core.Path.{◌≡◌}
 use lib.ListN.{length}
 use Rattle.base_finite.specs.Stores.{Written}
@@ -8,11 +8,6 @@ use Rattle.show_page.proofs.fill_page.Given as goal
 
 abbrev pub invariant-loop-k : goal.invariant-loop-k
 invariant-loop-k l =
-    ((l.passed ≤ l.k) × (l.done ≤ l.k) × (l.k ≤ l.last))
-    × (l.at ≡ (l.k - l.passed) * l.n)
-    × (l.end + 1100 ≤ length l.out)
+    (l.end + 1100 ≤ length l.out)
     × (length l.out ≡ length l.initial.out)
     × ((s : Held l.trees l.passed l.last l.placings) → Written l.initial.out 0 (lines s.graph l.done l.k) l.out l.end)
-
-abbrev pub decreases-loop-k : goal.decreases-loop-k
-decreases-loop-k l = l.last - l.k

@@ -1,17 +1,17 @@
 -- 10, or the three answers.
 use native.Mathlib.Omega.{arith}
 use Rattle.solve_answer.proofs.Answering.{small_placing, placing_answered}
-use Rattle.solve_start.proofs.Starts.{parents_table, heads_long}
+use Rattle.solve_start.proofs.Starts.{parents_table}
 use Rattle.solve_answer.proofs.checked_placing.Goals as goal
 
-pub returns-then-placing-n : goal.returns-then-placing-n
-returns-then-placing-n c =
-    λ s. small_placing s _ (omega (arith, c.if-placing-n.true))
+pub returns-then-placing-graph : goal.returns-then-placing-graph
+returns-then-placing-graph c =
+    λ s. small_placing s _ (omega (arith, c.if-placing-graph.true))
 
 pub check-requires : goal.check-requires
 check-requires c =
-    let s = c.requires in (parents_table s, heads_long s, omega (arith, c.if-placing-n.false))
+    let s = c.requires in (parents_table s, omega (arith, c.if-placing-graph.false))
 
 pub returns : goal.returns
 returns c =
-    λ s. placing_answered s _ _ (omega (arith, c.if-placing-n.false)) c.check.ensures
+    λ s. placing_answered s _ _ (omega (arith, c.if-placing-graph.false)) c.check.ensures

@@ -1,22 +1,20 @@
 -- 9, or the count.
 use mathlib.Core.Path.{refl}
-use borrow.Author.Tests.{not-true, not-false}
 use Rattle.solve_answer.proofs.Answering.{no_count, a_count}
-use Rattle.solve_start.proofs.Starts.{parents_table}
 use Rattle.solve_answer.proofs.count_of.Goals as goal
 
-pub begin-begun-requires : goal.begin-begun-requires
-begin-begun-requires c =
-    let s = c.requires in (s, (parents_table s).few, refl)
+pub begin-requires : goal.begin-requires
+begin-requires c =
+    let s = c.requires in (s, refl)
 
-pub returns-then-not-begun : goal.returns-then-not-begun
-returns-then-not-begun c =
-    λ s. no_count s ((c.begin-begun.ensures.started s).unsolved (not-true _ c.if-not-begun.true))
+pub returns-in_default : goal.returns-in_default
+returns-in_default c =
+    λ s. no_count s ((c.begin.ensures.started s).unsolved c.in_default.is)
 
 pub count-requires : goal.count-requires
 count-requires c =
-    ((c.begin-begun.ensures.started c.requires).solved (not-false _ c.if-not-begun.false)).sheet
+    ((c.begin.ensures.started c.requires).solved _ c.in-Some.is).sheet
 
 pub returns : goal.returns
 returns c =
-    λ s. a_count s ((c.begin-begun.ensures.started s).solved (not-false _ c.if-not-begun.false)) _ c.count.ensures
+    λ s. a_count s ((c.begin.ensures.started s).solved _ c.in-Some.is) _ c.count.ensures

@@ -1,23 +1,12 @@
-use mathlib.Core.Path.{refl}
+use Prim.Native.Nat.{◌≤◌}
 use native.Mathlib.Omega.{arith}
-use Rattle.solve_below.proofs.Roots.{blank_none, blank_more}
+use lib.ListN.{length, take}
+use Rattle.std.proofs.lemmas.List.{length-take}
+use Rattle.solve_below.proofs.Roots.{blank_filled}
 use Rattle.solve_below.proofs.clear.Goals as goal
-
-pub loop-v-init : goal.loop-v-init
-loop-v-init c = (omega arith, refl, blank_none _)
-
-pub put_at-requires : goal.put_at-requires
-put_at-requires c = omega (arith, c.loop-v.invariant.1, c.requires)
-
-pub loop-v-preserved : goal.loop-v-preserved
-loop-v-preserved c =
-    let l = c.loop-v in
-    (omega arith, omega (arith, l.invariant.1, c.put_at.ensures.long), blank_more l.v l.sets _ c.empty.result c.empty.ensures c.put_at.ensures l.invariant.2)
-
-pub shape_of-sets : goal.shape_of-sets
-shape_of-sets c = c.loop-v.invariant.1
 
 pub returns : goal.returns
 returns c =
-    let l = c.loop-v in
-    record { nothing = λ u v h. l.invariant.2.nothing u v (omega arith) }
+    let sets = c.args.sets.now in
+    let fits : c.args.n ≤ length (take c.args.n sets) = omega (arith, length-take c.args.n sets) in
+    blank_filled c.args.n _ _ c.fill.new.self _ fits c.empty.ensures (c.fill.ensures.after (λ y h. h))

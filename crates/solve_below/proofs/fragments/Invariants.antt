@@ -6,7 +6,7 @@ use Rattle.solve_below.proofs.Roots.{FragmentsSo}
 use Rattle.solve_below.proofs.fragments.Given as goal
 
 abbrev pub invariant-loop-v : goal.invariant-loop-v
-invariant-loop-v l = (l.v ≤ l.n) × (length l.sets ≡ length l.initial.sets) × FragmentsSo l.n l.owner l.v l.sets
+invariant-loop-v l = (l.v ≤ l.n) × (length l.sets ≡ length l.initial.sets) × FragmentsSo l.n l.trees.owner l.v l.sets
 
 abbrev pub decreases-loop-v : goal.decreases-loop-v
 decreases-loop-v l = l.n - l.v

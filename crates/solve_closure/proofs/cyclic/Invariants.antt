@@ -2,7 +2,7 @@
 use Prim.Native.Nat.{ℕ, ◌-◌, ◌≤◌, ◌<◌}
 use mathlib.Core.Path.{◌≡◌}
 use mathlib.Core.Bool.{false}
-use Rattle.base_tables.specs.Sets.{in_row}
+use Rattle.base_tables.specs.Rows.{in_row}
 use Rattle.solve_closure.proofs.cyclic.Given as goal
 
 abbrev pub invariant-loop-u : goal.invariant-loop-u

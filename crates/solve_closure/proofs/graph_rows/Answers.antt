@@ -7,15 +7,13 @@ use Rattle.solve_closure.proofs.graph_rows.Goals as goal
 
 pub fill-requires : goal.fill-requires
 fill-requires c =
-    let parents = c.args.parent.now in
-    let low = c.args.heads_low.now in
-    let high = c.args.heads_high.now in (
+    let graph = c.args.graph.now in (
       search rules,
       c.requires.0.few,
       both_among
           (both_added c.clear.ensures c.add_links.ensures c.add_heads.ensures)
-          (link_from c.args.n parents (parents_links c.requires.0))
-          (head_from c.args.n low high),
+          (link_from graph.n graph.parent (parents_links c.requires.0))
+          (head_from graph.n graph.heads),
     )
 
 pub returns : goal.returns

@@ -21,5 +21,5 @@ fill-requires c =
     )
 
 pub returns : goal.returns
-returns c g lows highs edges t is_placing =
+returns c g heads edges t is_placing =
     rows_map (placing_paths g t c.args.placing.now is_placing (both_added c.clear.ensures c.add_links.ensures c.add_links-2.ensures)) c.fill.ensures

@@ -1,132 +1,93 @@
 -- What is kept is minimal, and its first edge closes the way back of the search.
 use Prim.Native.Nat.{ℕ, ◌≤◌, ◌<◌}
-use mathlib.Core.Path.{◌≡◌, sym, ap, subst, ◌∙◌}
-use mathlib.Core.List.{List}
+use mathlib.Core.Path.{◌≡◌}
 use mathlib.Core.Bool.{true}
 use native.Mathlib.Omega.{arith}
-use lib.ListN.{length}
 use Rattle.base_finite.specs.Below.{any, least}
-use Rattle.base_finite.proofs.Laws.{any_ext}
-use Rattle.base_nodeset.specs.Set.{mem}
-use Rattle.base_nodeset.specs.declared.NodeSet.{NodeSet}
 use Rattle.graph.specs.Graph.{Graph}
 use Rattle.theory_forest.proofs.Shape.{well_formed_shaped}
-use Rattle.base_tables.specs.Rows.{Long, in_row}
+use Rattle.base_tables.specs.declared.Graph.{Graph as Value}
+use Rattle.base_tables.specs.Rows.{in_row}
 use Rattle.base_tables.proofs.TreeLaws.{tables_parents}
-use Rattle.solve_cycle.specs.Thinning.{Unsolved, Thinned, before}
-use Rattle.solve_cycle.proofs.Thins.{known}
-use Rattle.solve_cycle.proofs.Cycles.{copied, lowest_of_lem, first_leaf_is, linked, ring_cycle}
-use borrow.Author.Rules.{rules}
+use Rattle.solve_cycle.specs.Thinning.{Unsolved, SameTrees, Thinned, before}
+use Rattle.solve_cycle.proofs.Cycles.{lowest_of_lem, first_leaf_is, linked, ring_cycle}
 use Rattle.solve_cycle.proofs.witness.Goals as goal
 
--- what is kept, of the graph that the tables held at first
-thin : {n m : ℕ} {parents heads_low heads_high low₁ high₁ low high : List ℕ}
-    → m ≡ n
-    → low₁ ≡ heads_low
-    → high₁ ≡ heads_high
-    → ((s : Unsolved m parents low₁ high₁) → Thinned s.graph m parents low high (before m))
-    → (u : Unsolved n parents heads_low heads_high)
-    → Thinned u.graph n parents low high (before n)
-thin {parents = parents} {low = low} {high = high} same low_is high_is kept u =
-    subst (λ (k : ℕ). Thinned u.graph k parents low high (before k)) same (kept (copied _ _ parents _ _ _ _ same low_is high_is u))
-
-long : {g : Graph} {n : ℕ} {parents low high : List ℕ} → Thinned g n parents low high (before n) → Long low high
-long t = (t.tables.holds.low_long, t.tables.holds.high_long)
-
-small : {n : ℕ} {parents low high : List ℕ} → Unsolved n parents low high → n ≤ 128
+small : {value : Value} → Unsolved value → value.n ≤ 128
 small u = (tables_parents u.tables).few
+
+few : {value thin : Value} → Unsolved value → SameTrees value thin → thin.n ≤ 128
+few u same = omega (arith, small u, same.nodes)
 
 -- the first edge
 
-first_small : {g : Graph} {n : ℕ} {parents low high : List ℕ}
-    → Thinned g n parents low high (before n)
-    → n ≤ 128
+first_small : {g : Graph} {value : Value}
+    → Thinned g value (before value.n)
+    → value.n ≤ 128
     → (l : ℕ)
-    → l ≡ least n (λ k. any 128 (in_row low high k))
+    → l ≡ least value.n (λ k. any 128 (in_row value.heads k))
     → l < 128
-first_small t few l is = omega (arith, first_leaf_is _ _ _ _ _ t l is)
+first_small t fits l is = omega (arith, first_leaf_is _ _ t l is)
 
-edge_of : {g : Graph} {n : ℕ} {parents low high : List ℕ}
-    → Thinned g n parents low high (before n)
+edge_of : {g : Graph} {value : Value}
+    → Thinned g value (before value.n)
     → (l : ℕ)
-    → l ≡ least n (λ k. any 128 (in_row low high k))
-    → (row : NodeSet)
-    → ((k : ℕ) → mem row k ≡ in_row low high l k)
+    → l ≡ least value.n (λ k. any 128 (in_row value.heads k))
     → (r : ℕ)
-    → r ≡ least 128 (mem row)
-    → (r < 128) × (in_row low high l r ≡ true)
-edge_of {low = low} {high = high} t l is row row_is r lowest =
-    let some : any 128 (mem row) ≡ true =
-    any_ext 128 (mem row) (in_row low high l) (λ k h. row_is k) ∙ (first_leaf_is _ _ _ _ _ t l is).1 in
-    let x = lowest_of_lem (mem row) 128 r some lowest in
-    (x.0, sym (row_is r) ∙ x.1)
+    → r ≡ least 128 (in_row value.heads l)
+    → (r < 128) × (in_row value.heads l r ≡ true)
+edge_of {value = value} t l is r lowest = lowest_of_lem (in_row value.heads l) 128 r (first_leaf_is _ _ t l is).1 lowest
 
 pub read_trees-trees-requires : goal.read_trees-trees-requires
 read_trees-trees-requires c = tables_parents c.requires.0.tables
 
-pub owners-requires : goal.owners-requires
-owners-requires c =
-    let few = small c.requires.0 in
-    (tables_parents c.requires.0.tables, search rules)
-
-pub copy_rows-requires : goal.copy_rows-requires
-copy_rows-requires c =
-    let h = c.requires.0.tables.holds in
-    ((h.low_long, h.high_long), search rules)
-
 pub minimize-requires : goal.minimize-requires
 minimize-requires c =
-    let h = c.requires.0.tables.holds in
-    let t = c.read_trees-trees in
-    let k = c.copy_rows in
-    let few = small c.requires.0 in
-    (known (tables_parents c.requires.0.tables) t.ensures.bounded.0 t.ensures.bounded.1 t.ensures.trees_of c.owners.ensures (search rules), (ap length k.ensures.0 ∙ h.low_long, ap length k.ensures.1 ∙ h.high_long))
+    let t = c.read_trees-trees.ensures in
+    record { nodes = t.bounded.1; parents_are = tables_parents c.requires.0.tables; owners_are = t.bounded.0; fits = t.trees_of }
 
+-- the thinned out graph has as many nodes
 pub first_leaf-leaf-requires : goal.first_leaf-leaf-requires
-first_leaf-leaf-requires c =
-    let t = thin c.read_trees-trees.ensures.bounded.1 c.copy_rows.ensures.0 c.copy_rows.ensures.1 c.minimize.ensures c.requires.0 in
-    (long t, small c.requires.0)
+first_leaf-leaf-requires c = few c.requires.0 c.minimize.ensures.same
 
-pub set_at-requires : goal.set_at-requires
-set_at-requires c =
-    let t = thin c.read_trees-trees.ensures.bounded.1 c.copy_rows.ensures.0 c.copy_rows.ensures.1 c.minimize.ensures c.requires.0 in
-    let below = first_small t (small c.requires.0) c.first_leaf-leaf.result c.first_leaf-leaf.ensures in
-    let both = long t in
-    search rules
+pub offset_bounds-thin-leaf : goal.offset_bounds-thin-leaf
+offset_bounds-thin-leaf c = omega (arith, first_small (c.minimize.ensures.thinned c.requires.0) (few c.requires.0 c.minimize.ensures.same) c.first_leaf-leaf.result c.first_leaf-leaf.ensures)
+
+pub bounds-thin-leaf : goal.bounds-thin-leaf
+bounds-thin-leaf c = first_small (c.minimize.ensures.thinned c.requires.0) (few c.requires.0 c.minimize.ensures.same) c.first_leaf-leaf.result c.first_leaf-leaf.ensures
 
 pub take_out-requires : goal.take_out-requires
 take_out-requires c =
-    let t = thin c.read_trees-trees.ensures.bounded.1 c.copy_rows.ensures.0 c.copy_rows.ensures.1 c.minimize.ensures c.requires.0 in
+    let t = c.minimize.ensures.thinned c.requires.0 in
     let l = c.first_leaf-leaf in
-    let e = edge_of t l.result l.ensures c.set_at.result c.set_at.ensures c.lowest-root.result c.lowest-root.ensures in
-    (long t, first_small t (small c.requires.0) l.result l.ensures, e.0)
+    let e = edge_of t l.result l.ensures c.lowest-root.result c.lowest-root.ensures in
+    (first_small t (few c.requires.0 c.minimize.ensures.same) l.result l.ensures, e.0)
 
 pub ring-requires : goal.ring-requires
 ring-requires c =
-    let a = c.args in
+    let m = c.minimize in
     let o = c.take_out in
-    let m = c.minimize.new in
     let l = c.first_leaf-leaf in
     let r = c.lowest-root in
-    let t = thin c.read_trees-trees.ensures.bounded.1 c.copy_rows.ensures.0 c.copy_rows.ensures.1 c.minimize.ensures c.requires.0 in
-    let e = edge_of t l.result l.ensures c.set_at.result c.set_at.ensures r.result r.ensures in
-    (linked c.requires.0.graph a.n a.parent.now m.low m.high t l.result r.result e.1 o.new.low o.new.high o.ensures, c.requires.1)
+    let t = m.ensures.thinned c.requires.0 in
+    let e = edge_of t l.result l.ensures r.result r.ensures in
+    (linked c.requires.0.graph m.new.graph t l.result r.result e.1 o.new.graph o.ensures, omega (arith, c.requires.1, o.ensures.same.nodes, m.ensures.same.nodes))
 
 pub returns-clause-within : goal.returns-clause-within
-returns-clause-within c = omega (arith, c.ring.ensures.few)
+returns-clause-within c = omega (arith, c.ring.ensures.few, c.take_out.ensures.same.nodes, c.minimize.ensures.same.nodes)
 
 pub returns-clause-cycle : goal.returns-clause-cycle
 returns-clause-cycle c u =
     let a = c.args in
     let o = c.take_out in
     let k = c.ring in
-    let m = c.minimize.new in
+    let m = c.minimize in
     let l = c.first_leaf-leaf in
     let r = c.lowest-root in
-    let t = thin c.read_trees-trees.ensures.bounded.1 c.copy_rows.ensures.0 c.copy_rows.ensures.1 c.minimize.ensures u in
-    let e = edge_of t l.result l.ensures c.set_at.result c.set_at.ensures r.result r.ensures in
-    ring_cycle u.graph a.n a.parent.now m.low m.high t l.result r.result e.1 o.new.low o.new.high o.ensures
-    (well_formed_shaped u.tables.well_formed) a.out.now k.new.out k.result c.requires.1 k.ensures
+    let t = m.ensures.thinned u in
+    let e = edge_of t l.result l.ensures r.result r.ensures in
+    ring_cycle u.graph m.new.graph t l.result r.result e.1 o.new.graph o.ensures
+    (well_formed_shaped u.tables.well_formed) a.out.now k.new.out k.result (omega (arith, c.requires.1, o.ensures.same.nodes, m.ensures.same.nodes)) k.ensures
 
 pub returns-clause-rest : goal.returns-clause-rest
 returns-clause-rest c = c.ring.ensures.rest

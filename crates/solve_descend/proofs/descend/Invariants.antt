@@ -17,7 +17,7 @@ invariant-loop-reading l =
     × (length l.trail ≡ length l.initial.trail)
     × Kept l.initial.here.depth l.initial.trail l.trail
     × (length l.states ≡ length l.initial.states)
-    × ((g : Graph) (k : ℕ) → Fits g l.trees l.owner → Dives g l.initial.trail l.initial.states l.initial.here k → Dives g l.trail l.states l.here k × ((l.here.depth ≡ l.initial.here.depth) ⊎ Solvable (reached g l.trail l.here.depth)))
+    × ((g : Graph) (k : ℕ) → Fits g l.trees → Dives g l.initial.trail l.initial.states l.initial.here k → Dives g l.trail l.states l.here k × ((l.here.depth ≡ l.initial.here.depth) ⊎ Solvable (reached g l.trail l.here.depth)))
 
 abbrev pub decreases-loop-reading : goal.decreases-loop-reading
 decreases-loop-reading l = l.trees.n * l.trees.n - l.here.depth

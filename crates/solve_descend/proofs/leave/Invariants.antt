@@ -1,5 +1,5 @@
 -- A half that has no solved form is left as it was entered; each turn leaves one decision at least.
-use Prim.Native.Nat.{ℕ, ◌≤◌, ◌<◌}
+use Prim.Native.Nat.{ℕ, ◌*◌, ◌≤◌, ◌<◌}
 use mathlib.Core.Path.{◌≡◌}
 use lib.ListN.{length}
 use Rattle.graph.specs.Graph.{Graph}
@@ -8,15 +8,15 @@ use Rattle.solve_levels.specs.Decisions.{Noted, Kept}
 use Rattle.solve_branch.specs.States.{Leaves}
 use Rattle.solve_descend.proofs.leave.Given as goal
 
-abbrev pub invariant-loop-trees : goal.invariant-loop-trees
-invariant-loop-trees l =
+abbrev pub invariant-loop-here : goal.invariant-loop-here
+invariant-loop-here l =
     (length l.states ≡ length l.initial.states)
     × (length l.trail ≡ length l.initial.trail)
     × (l.base ≤ l.top)
-    × (l.here.open ≤ length l.initial.trail)
+    × (l.here.opened ≤ 2 * length l.initial.trail)
     × Kept l.base l.initial.trail l.trail
     × ((i : ℕ) → i < l.top → Noted l.trees.n l.trail i)
-    × ((g : Graph) (k : ℕ) → Fits g l.trees l.owner → Leaves g l.initial.trail l.initial.states l.initial.here l.initial.top k → Leaves g l.trail l.states l.here l.top k)
+    × ((g : Graph) (k : ℕ) → Fits g l.trees → Leaves g l.initial.trail l.initial.states l.initial.here l.initial.top k → Leaves g l.trail l.states l.here l.top k)
 
-abbrev pub decreases-loop-trees : goal.decreases-loop-trees
-decreases-loop-trees l = l.top
+abbrev pub decreases-loop-here : goal.decreases-loop-here
+decreases-loop-here l = l.top

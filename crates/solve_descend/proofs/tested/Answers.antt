@@ -1,8 +1,9 @@
 -- The rows of roots and leaves, made of the state and of the fragments.
-use Prim.Native.Nat.{ℕ, ◌*◌}
+use Prim.Native.Nat.{◌*◌}
 use mathlib.Core.Path.{refl, sym, subst}
 use mathlib.Core.List.{List}
 use native.Mathlib.Omega.{arith}
+use Rattle.base_nodeset.specs.declared.NodeSet.{NodeSet}
 use Rattle.graph.specs.Graph.{own}
 use Rattle.solve_below.specs.Below.{Fragments, Under}
 use Rattle.solve_test.proofs.Filled.{blank_rows}
@@ -43,7 +44,7 @@ pub slice_bounds-end_rows-end-2 : goal.slice_bounds-end_rows-end-2
 slice_bounds-end_rows-end-2 c = omega (arith, c.requires.1, c.width-wide.ensures)
 
 pub end_rows-requires : goal.end_rows-requires
-end_rows-requires c = (omega (arith, c.requires.1, c.width-wide.ensures, c.slot-from.ensures.1), omega (arith, c.requires.1, c.width-wide.ensures), c.requires.0.bounded, blank_rows 256 refl)
+end_rows-requires c = (omega (arith, c.requires.1, c.width-wide.ensures, c.slot-from.ensures.1), omega (arith, c.requires.1, c.width-wide.ensures), c.requires.0.bounded, blank_rows 128 _ refl c.empty-rows.ensures)
 
 pub solvable-requires : goal.solvable-requires
 solvable-requires c = (c.requires.0, omega (arith, c.end_rows.auto))
@@ -54,5 +55,5 @@ returns c =
     λ g f of are.
     c.solvable.ensures g f
     (c.end_rows.ensures g f.shaped f.trees
-    (subst (λ (l : List ℕ). Fragments a.trees.n (own g) l) (sym (lent_state a.trees.n c.width-wide.result (c.width-wide.result * 33) 33 a.states.now c.width-wide.ensures (omega (arith, c.width-wide.ensures)))) of)
-    (subst (λ (l : List ℕ). Under g l) (sym (lent_state a.trees.n c.width-wide.result c.slot-from.result _ a.states.now c.width-wide.ensures c.slot-from.ensures.0)) are))
+    (subst (λ (l : List NodeSet). Fragments a.trees.now.n (own g) l) (sym (lent_state a.trees.now.n c.width-wide.result (c.width-wide.result * 33) 33 a.states.now c.width-wide.ensures (omega (arith, c.width-wide.ensures)))) of)
+    (subst (λ (l : List NodeSet). Under g l) (sym (lent_state a.trees.now.n c.width-wide.result c.slot-from.result _ a.states.now c.width-wide.ensures c.slot-from.ensures.0)) are))

@@ -1,9 +1,10 @@
-use Prim.Native.Nat.{ℕ}
+use Prim.Native.Nat.{ℕ, ◌-◌}
 use mathlib.Core.Path.{refl, sym, ◌∙◌}
 use native.Mathlib.Omega.{arith}
-use lib.ListN.{replicate, length-replicate}
+use lib.ListN.{get_or, replicate, length-replicate}
 use Rattle.base_finite.proofs.Laws.{count_le}
 use Rattle.base_nodeset.specs.Set.{mem}
+use Rattle.base_tables.proofs.Stored.{row_put}
 use Rattle.solve_descent.proofs.Filling.{fills_none, fills_more, fills_row, underway_start, last_node, way_falls, underway_more}
 use borrow.Author.Rules.{rules}
 use Rattle.solve_descent.proofs.fill_from.Goals as goal
@@ -38,8 +39,8 @@ under-row-requires c =
     let l = c.loop-depth in
     (l.invariant.2, l.invariant.3.is_whole, last_node _ _ _ _ _ c.loop-depth.invariant.4 c.loop-depth-test.true _ _ _ c.down-end.ensures, l.invariant.0)
 
-pub put_at-requires : goal.put_at-requires
-put_at-requires c =
+pub bounds-rows-last : goal.bounds-rows-last
+bounds-rows-last c =
     let last = last_node _ _ _ _ _ c.loop-depth.invariant.4 c.loop-depth-test.true _ _ _ c.down-end.ensures in
     omega (arith, c.loop-depth.invariant.2)
 
@@ -53,7 +54,7 @@ pub loop-depth-preserved : goal.loop-depth-preserved
 loop-depth-preserved c =
     let l = c.loop-depth in
     let row = c.under-row in
-    let put = c.put_at.ensures in
+    let put = row_put (get_or c.down-end.new.way (c.down-end.result.depth - 1) 0) row.result l.rows (omega (arith, l.invariant.2, last_node _ _ _ _ _ c.loop-depth.invariant.4 c.loop-depth-test.true _ _ _ c.down-end.ensures)) in
     let down = c.down-end.ensures in (
       row.ensures.walked.listed.long ∙ l.invariant.0,
       down.long ∙ l.invariant.1,

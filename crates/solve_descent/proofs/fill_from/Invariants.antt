@@ -5,7 +5,7 @@ use mathlib.Core.Path.{◌≡◌}
 use lib.ListN.{length}
 use Rattle.base_finite.specs.Below.{count}
 use Rattle.base_nodeset.specs.Set.{mem}
-use Rattle.base_tables.specs.Sets.{Long}
+use Rattle.base_tables.specs.Rows.{Long}
 use Rattle.solve_descent.specs.Descent.{Fills}
 use Rattle.solve_descent.proofs.Filling.{Underway}
 use Rattle.solve_descent.proofs.fill_from.Given as goal

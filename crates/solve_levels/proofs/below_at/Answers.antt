@@ -1,8 +1,9 @@
 -- The state at the level's slot, and the fragments at theirs.
-use Prim.Native.Nat.{ℕ, ◌*◌}
+use Prim.Native.Nat.{◌*◌}
 use mathlib.Core.Path.{sym, subst}
 use mathlib.Core.List.{List}
 use native.Mathlib.Omega.{arith}
+use Rattle.base_nodeset.specs.declared.NodeSet.{NodeSet}
 use Rattle.graph.specs.Graph.{own}
 use Rattle.solve_below.specs.Below.{Fragments, Under}
 use Rattle.solve_levels.proofs.Stack.{lent_state}
@@ -49,6 +50,6 @@ returns c =
     let a = c.args in
     λ g s ends of are is.
     c.below.ensures g s ends
-    (subst (λ (l : List ℕ). Fragments a.trees.n (own g) l) (sym (lent_state a.trees.n c.width-wide.result (c.width-wide.result * 33) 33 a.states.now c.width-wide.ensures (omega (arith, c.width-wide.ensures)))) of)
-    (subst (λ (l : List ℕ). Under g l) (sym (lent_state a.trees.n c.width-wide.result c.slot-from.result _ a.states.now c.width-wide.ensures c.slot-from.ensures.0)) are)
+    (subst (λ (l : List NodeSet). Fragments a.trees.now.n (own g) l) (sym (lent_state a.trees.now.n c.width-wide.result (c.width-wide.result * 33) 33 a.states.now c.width-wide.ensures (omega (arith, c.width-wide.ensures)))) of)
+    (subst (λ (l : List NodeSet). Under g l) (sym (lent_state a.trees.now.n c.width-wide.result c.slot-from.result _ a.states.now c.width-wide.ensures c.slot-from.ensures.0)) are)
     is

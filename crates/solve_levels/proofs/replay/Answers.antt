@@ -1,19 +1,15 @@
 use Prim.Native.Nat.{ℕ, ◌*◌}
 use mathlib.Core.Path.{refl, ap}
-use mathlib.Core.Logic.{inr}
 use native.Mathlib.Omega.{arith}
-use Rattle.solve_levels.proofs.Stack.{matches_outset}
+use Rattle.solve_levels.proofs.Stack.{copied_part, matches_outset}
 use Rattle.solve_levels.proofs.Fitting.{decision_fresh, decision_loopless, valid_shaped}
 use Rattle.solve_levels.proofs.replay.Goals as goal
 
 pub width-wide-requires : goal.width-wide-requires
 width-wide-requires c = c.requires.0.bounded.few
 
-pub overflow_mul-wide : goal.overflow_mul-wide
-overflow_mul-wide c = omega (arith, c.width-wide.ensures, c.requires.0.bounded.few)
-
-pub copy_within-requires : goal.copy_within-requires
-copy_within-requires c = (omega (arith, c.requires.1, c.width-wide.ensures), omega (arith, c.requires.1, c.width-wide.ensures), inr (omega (arith, c.width-wide.ensures)))
+pub overflow_mul-outset : goal.overflow_mul-outset
+overflow_mul-outset c = omega (arith, c.width-wide.ensures, c.requires.0.bounded.few)
 
 pub loop-at-init : goal.loop-at-init
 loop-at-init c = (omega arith, omega arith, refl, λ g f m here v. (m, here))
@@ -35,11 +31,11 @@ loop-at-preserved c =
       omega (arith, c.down-at.auto, l.invariant.2),
       λ g f m here v.
           let x = l.invariant.3 g f m here v in
-          c.down-at.ensures.cases g f x.0 x.1 (valid_shaped g a.trees a.owner.now a.trail.now f l.at.depth a.depth (omega arith) v)
-          (decision_loopless g a.trees a.owner.now a.trail.now f l.at.depth a.depth c.loop-at-test.true v)
-          (decision_fresh g a.trees a.owner.now a.trail.now f l.at.depth a.depth c.loop-at-test.true v),
+          c.down-at.ensures.cases g f x.0 x.1 (valid_shaped g a.trees.now a.trail.now f l.at.depth a.depth (omega arith) v)
+          (decision_loopless g a.trees.now a.trail.now f l.at.depth a.depth c.loop-at-test.true v)
+          (decision_fresh g a.trees.now a.trail.now f l.at.depth a.depth c.loop-at-test.true v),
     )
 
 pub returns : goal.returns
 returns c = let a = c.args in
-    let l = c.loop-at in record { depth_value = (omega arith, omega (arith, l.invariant.1)); cases = λ g from f m v. l.invariant.3 g f (matches_outset a.trees.n f.trees.nodes c.requires.1 m.outset m.fragments c.copy_within.auto.words _ _ c.width-wide.ensures (ap (λ (k : ℕ). k * 32) c.width-wide.ensures) c.copy_within.ensures _ refl refl refl) (omega arith) v }
+    let l = c.loop-at in record { depth_value = (omega arith, omega (arith, l.invariant.1)); cases = λ g from f m v. l.invariant.3 g f (matches_outset a.trees.now.n f.trees.nodes c.requires.1 m.outset m.fragments c.copy_within.ensures.len _ _ c.width-wide.ensures (ap (λ (k : ℕ). k * 32) c.width-wide.ensures) (copied_part (c.width-wide.result * 32) _ 0 _ refl c.copy_within.ensures.by_index.0 c.copy_within.ensures.by_index.1 c.copy_within.ensures.by_index.2) _ refl refl refl) (omega arith) v }

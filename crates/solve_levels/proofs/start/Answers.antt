@@ -1,10 +1,9 @@
 -- The fragments and the reduced form are made at their slots, and the form is copied to the first level's.
 use Prim.Native.Nat.{ℕ, ◌*◌}
 use mathlib.Core.Path.{refl, ap}
-use mathlib.Core.Logic.{inr}
 use native.Mathlib.Omega.{arith}
 use Rattle.solve_below.proofs.Roots.{fragments_own}
-use Rattle.solve_levels.proofs.Stack.{outset_made}
+use Rattle.solve_levels.proofs.Stack.{copied_part, outset_made}
 use Rattle.solve_levels.proofs.Fitting.{at_reduction}
 use Rattle.solve_levels.proofs.start.Goals as goal
 
@@ -41,8 +40,5 @@ slice_bounds-reduce-end c = omega (arith, c.width-wide.ensures, c.requires.2, c.
 pub reduce-requires : goal.reduce-requires
 reduce-requires c = (c.requires.0, c.requires.1.bounded, omega (arith, c.width-wide.ensures, c.requires.2, c.fragments.auto))
 
-pub copy_within-requires : goal.copy_within-requires
-copy_within-requires c = (omega (arith, c.width-wide.ensures, c.requires.2, c.fragments.auto, c.reduce.auto), omega (arith, c.width-wide.ensures, c.requires.2, c.fragments.auto, c.reduce.auto), inr (omega (arith, c.width-wide.ensures)))
-
 pub returns : goal.returns
-returns c = record { depth_value = (refl, refl, refl); cases = λ g trail f rows. outset_made c.args.states.now _ c.args.trees.n f.trees.nodes c.requires.2 _ _ _ c.width-wide.ensures (ap (λ (k : ℕ). k * 32) c.width-wide.ensures) (omega (arith, c.width-wide.ensures)) c.fragments.auto.sets c.reduce.auto.sets c.copy_within.ensures c.copy_within.auto.words (fragments_own g _ f c.fragments.ensures) (at_reduction f.trees.nodes (c.reduce.ensures g f.shaped f.trees rows)) _ refl refl refl }
+returns c = record { depth_value = (refl, refl, refl); cases = λ g trail f rows. outset_made c.args.states.now _ c.args.trees.now.n f.trees.nodes c.requires.2 _ _ _ c.width-wide.ensures (ap (λ (k : ℕ). k * 32) c.width-wide.ensures) (omega (arith, c.width-wide.ensures)) c.fragments.auto.sets c.reduce.auto.sets (copied_part (c.width-wide.result * 32) _ 0 _ refl c.copy_within.ensures.by_index.0 c.copy_within.ensures.by_index.1 c.copy_within.ensures.by_index.2) c.copy_within.ensures.len (fragments_own g _ f c.fragments.ensures) (at_reduction f.trees.nodes (c.reduce.ensures g f.shaped f.trees rows)) _ refl refl refl }

@@ -3,11 +3,14 @@ use native.Mathlib.Omega.{arith}
 use Rattle.solve_numbered.proofs.Numbers.{all_exact, all_more}
 use Rattle.solve_numbered.proofs.count_in.Goals as goal
 
-pub reach-requires : goal.reach-requires
-reach-requires c = (c.requires.0, c.requires.1, c.requires.2, omega arith)
+pub whole_as_slice-reach : goal.whole_as_slice-reach
+whole_as_slice-reach g c = omega (arith, c.requires.1.0)
 
-pub returns-in_default : goal.returns-in_default
-returns-in_default c = λ s. all_more s.walked.graph _ _ (c.reach.ensures s) c.in_default.is
+pub whole_as_slice-reach-2 : goal.whole_as_slice-reach-2
+whole_as_slice-reach-2 g c = omega (arith, c.requires.1.1)
 
-pub returns : goal.returns
-returns c = λ s. all_exact s.walked.graph _ _ (c.reach.ensures s) c.in-Only.is
+pub returns-in-Ok : goal.returns-in-Ok
+returns-in-Ok g c = λ s. all_more s.walked.graph _ _ (c.reach.ensures s) c.in-Ok.is
+
+pub returns-in-Err : goal.returns-in-Err
+returns-in-Err g c = λ s. all_exact s.walked.graph _ _ (c.reach.ensures s) c.in-Err.is

@@ -1,5 +1,5 @@
 -- Each turn goes on by one reading.
-use Prim.Native.Nat.{◌-◌, ◌≤◌}
+use Prim.Native.Nat.{◌-◌}
 use mathlib.Core.Path.{◌≡◌}
 use lib.ListN.{length}
 use Rattle.graph.specs.Graph.{Graph}
@@ -9,10 +9,6 @@ use Rattle.solve_numbered.proofs.reach.Given as goal
 
 abbrev pub invariant-loop-passed : goal.invariant-loop-passed
 invariant-loop-passed l =
-    (l.passed ≤ l.before)
-    × (length l.trail ≡ length l.initial.trail)
+    (length l.trail ≡ length l.initial.trail)
     × (length l.states ≡ length l.initial.states)
-    × ((g : Graph) → Fits g l.trees l.owner → Stands g l.initial.trail l.initial.states l.initial.at 0 → Stands g l.trail l.states l.at l.passed)
-
-abbrev pub decreases-loop-passed : goal.decreases-loop-passed
-decreases-loop-passed l = l.before - l.passed
+    × ((g : Graph) → Fits g l.trees → Stands g l.initial.trail l.initial.states l.initial.at 0 → Stands g l.trail l.states l.at (l.passed - 1))

@@ -1,8 +1,8 @@
 -- The state at the level.
-use Prim.Native.Nat.{ℕ}
 use mathlib.Core.Path.{sym, subst}
 use mathlib.Core.List.{List}
 use native.Mathlib.Omega.{arith}
+use Rattle.base_nodeset.specs.declared.NodeSet.{NodeSet}
 use Rattle.solve_reduce.specs.Reduced.{LooplessForm}
 use Rattle.solve_levels.proofs.Stack.{lent_state}
 use Rattle.solve_numbered.proofs.read_off.Goals as goal
@@ -29,4 +29,4 @@ pub settle-requires : goal.settle-requires
 settle-requires c = (omega (arith, c.requires.0, c.width-wide.ensures, c.slot-from.ensures.1), c.requires.1, c.requires.2)
 
 pub returns : goal.returns
-returns c = record { out_unchanged = c.settle.ensures.out_unchanged; out_after = λ g ends is. c.settle.ensures.out_after g ends (subst (λ (s : List ℕ). LooplessForm g c.args.trees.n s) (sym (lent_state c.args.trees.n c.width-wide.result c.slot-from.result _ c.args.states.now c.width-wide.ensures c.slot-from.ensures.0)) is) }
+returns c = record { out_unchanged = c.settle.ensures.out_unchanged; out_after = λ g ends is. c.settle.ensures.out_after g ends (subst (λ (s : List NodeSet). LooplessForm g c.args.trees.now.n s) (sym (lent_state c.args.trees.now.n c.width-wide.result c.slot-from.result _ c.args.states.now c.width-wide.ensures c.slot-from.ensures.0)) is) }

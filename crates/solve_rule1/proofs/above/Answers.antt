@@ -6,14 +6,14 @@ use Rattle.solve_rule1.proofs.above.Goals as goal
 pub bounds-p-v : goal.bounds-p-v
 bounds-p-v c =
     let a = c.args in
-    omega (arith, c.requires.1, solved_length a.n a.parent.now a.p.now c.requires.0)
+    omega (arith, c.requires.1, solved_length a.graph.now.n a.graph.now.parent a.p.now c.requires.0)
 
 pub returns-then-over : goal.returns-then-over
 returns-then-over c = λ s.
     let a = c.args in
-    up_hung a.n a.parent.now a.p.now s a.v c.requires.1 c.if-over.true
+    up_hung a.graph.now.n a.graph.now.parent a.p.now s a.v c.requires.1 c.if-over.true
 
 pub returns-else-over : goal.returns-else-over
 returns-else-over c = λ s.
     let a = c.args in
-    up_parent a.n a.parent.now a.p.now s a.v c.requires.1 c.if-over.false
+    up_parent a.graph.now.n a.graph.now.parent a.p.now s a.v c.requires.1 c.if-over.false

@@ -1,8 +1,8 @@
--- The two depths decide, and a node that is not among the leaves is passed over.
+-- The leaf is taken where it is less deep.
 use native.Mathlib.Omega.{arith}
 use mathlib.Core.Path.{sym, ◌∙◌}
 use Rattle.graph.specs.Rule1.{depth}
-use Rattle.solve_rule1.proofs.Choosing.{better_other, better_deeper, better_taken}
+use Rattle.solve_rule1.proofs.Choosing.{better_taken}
 use Rattle.solve_rule1.proofs.better_leaf.Goals as goal
 
 pub returns-then-edges_above : goal.returns-then-edges_above
@@ -11,14 +11,3 @@ returns-then-edges_above c = λ s.
     better_taken a.leaves (depth s.sheet.graph a.p.now) a.best a.l
     (sym c.has.ensures ∙ c.if-has.true)
     (omega (arith, c.if-edges_above.true, c.edges_above.ensures s, c.edges_above-then-has.ensures s))
-
-pub returns-else-edges_above : goal.returns-else-edges_above
-returns-else-edges_above c = λ s.
-    let a = c.args in
-    better_deeper a.leaves (depth s.sheet.graph a.p.now) a.best a.l
-    (omega (arith, c.if-edges_above.false, c.edges_above.ensures s, c.edges_above-then-has.ensures s))
-
-pub returns-else-has : goal.returns-else-has
-returns-else-has c = λ s.
-    let a = c.args in
-    better_other a.leaves (depth s.sheet.graph a.p.now) a.best a.l (sym c.has.ensures ∙ c.if-has.false)

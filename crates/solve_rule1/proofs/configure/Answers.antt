@@ -18,21 +18,21 @@ inner_nodes-inner-requires c =
 pub slice_bounds-steps-end : goal.slice_bounds-steps-end
 slice_bounds-steps-end c =
     let a = c.args in
-    omega (arith, solved_length a.n a.parent.now (take a.n a.placing.now) c.requires, length-take a.n a.placing.now, min-le_right a.n (length a.placing.now))
+    omega (arith, solved_length a.graph.now.n a.graph.now.parent (take a.graph.now.n a.placing.now) c.requires, length-take a.graph.now.n a.placing.now, min-le_right a.graph.now.n (length a.placing.now))
 
 pub slice_bounds-steps-end-2 : goal.slice_bounds-steps-end-2
 slice_bounds-steps-end-2 c =
     let a = c.args in
-    sym (solved_length a.n a.parent.now (take a.n a.placing.now) c.requires)
+    sym (solved_length a.graph.now.n a.graph.now.parent (take a.graph.now.n a.placing.now) c.requires)
 
 pub returns : goal.returns
 returns c =
     let a = c.args in
     let old : List ℕ = a.placing.now in
     let new : List ℕ = c.steps.new.p in
-    let kept : length new ≡ length (take a.n old) = c.steps.auto.p in
-    let long : length new ≡ a.n = kept ∙ solved_length a.n a.parent.now (take a.n old) c.requires in
+    let kept : length new ≡ length (take a.graph.now.n old) = c.steps.auto.p in
+    let long : length new ≡ a.graph.now.n = kept ∙ solved_length a.graph.now.n a.graph.now.parent (take a.graph.now.n old) c.requires in
     record {
-      reached = λ s. subst⁻¹ (λ (q : List ℕ). Rule1 s.sheet.graph (take a.n old) q) (take_at new (drop a.n old) a.n long) (c.steps.ensures s);
-      others = drop_at new (drop a.n old) a.n long;
+      reached = λ s. subst⁻¹ (λ (q : List ℕ). Rule1 s.sheet.graph (take a.graph.now.n old) q) (take_at new (drop a.graph.now.n old) a.graph.now.n long) (c.steps.ensures s);
+      others = drop_at new (drop a.graph.now.n old) a.graph.now.n long;
     }

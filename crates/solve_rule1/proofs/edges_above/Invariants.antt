@@ -1,5 +1,5 @@
 -- The edges passed and those that still lead up from the node reached are the depth of v.
-use Prim.Native.Nat.{◌+◌, ◌-◌, ◌≤◌, ◌<◌}
+use Prim.Native.Nat.{◌+◌, ◌-◌, ◌<◌}
 use mathlib.Core.Path.{◌≡◌}
 use Rattle.graph.specs.Rule1.{rise, depth}
 use Rattle.solve_rule1.specs.Solved.{Solved}
@@ -7,7 +7,4 @@ use Rattle.solve_rule1.proofs.edges_above.Given as goal
 
 abbrev pub invariant-loop-edges : goal.invariant-loop-edges
 invariant-loop-edges l =
-    (l.at < l.n) × (l.edges ≤ l.n) × ((s : Solved l.n l.parent l.p) → l.edges + rise (l.n - l.edges) s.sheet.graph l.p l.at ≡ depth s.sheet.graph l.p l.v)
-
-abbrev pub decreases-loop-edges : goal.decreases-loop-edges
-decreases-loop-edges l = l.n - l.edges
+    (l.at < l.graph.n) × ((s : Solved l.graph.n l.graph.parent l.p) → l.edges + rise (l.graph.n - l.edges) s.sheet.graph l.p l.at ≡ depth s.sheet.graph l.p l.v)

@@ -7,22 +7,22 @@ use Rattle.base_tables.proofs.TreeLaws.{tree_of, tables_parents, leaf_is, own_is
 use Rattle.solve_rule1.proofs.SolvedTables.{shaped}
 use Rattle.solve_rule1.proofs.is_leaf_of.Goals as goal
 
-pub returns-then-has : goal.returns-then-has
+pub returns-else-not-has : goal.returns-else-not-has
 unfolding leaf_of
-returns-then-has c = λ s.
+returns-else-not-has c = λ s.
     let a = c.args in
-    let inner : mem a.inner a.v ≡ true = sym c.has.ensures ∙ c.if-has.true in
-    rw (leaf_is (shaped a.n a.parent.now s) (tree_of s.tables) a.inner c.requires.1 a.v c.requires.2, inner)
+    let inner : mem a.inner a.v ≡ true = sym c.has.ensures ∙ c.if-not-has.false in
+    rw (leaf_is (shaped a.graph.now.n a.graph.now.parent s) (tree_of s.tables) a.inner c.requires.1 a.v c.requires.2, inner, c.if-not-has.false)
 
 pub own-requires : goal.own-requires
 own-requires c = (tables_parents c.requires.0.tables, c.requires.2)
 
-pub returns : goal.returns
+pub returns-then-not-has : goal.returns-then-not-has
 unfolding leaf_of
-returns c = λ s.
+returns-then-not-has c = λ s.
     let a = c.args in
-    let inner : mem a.inner a.v ≡ false = sym c.has.ensures ∙ c.if-has.false in
-    let shape = shaped a.n a.parent.now s in
+    let inner : mem a.inner a.v ≡ false = sym c.has.ensures ∙ c.if-not-has.true in
+    let shape = shaped a.graph.now.n a.graph.now.parent s in
     let tree = tree_of s.tables in
     rw (
       leaf_is shape tree a.inner c.requires.1 a.v c.requires.2,

@@ -1,5 +1,5 @@
 -- No node passed is a leaf of the fragment, so the first that is one is the lowest.
-use Prim.Native.Nat.{ℕ, ◌-◌, ◌≤◌, ◌<◌}
+use Prim.Native.Nat.{ℕ, ◌<◌}
 use mathlib.Core.Path.{◌≡◌}
 use mathlib.Core.Bool.{false}
 use Rattle.graph.specs.Graph.{leaf_of}
@@ -7,7 +7,4 @@ use Rattle.solve_rule1.specs.Solved.{GraphOf}
 use Rattle.solve_rule1.proofs.lowest_leaf.Given as goal
 
 abbrev pub invariant-loop-v : goal.invariant-loop-v
-invariant-loop-v l = (l.v ≤ l.n) × ((s : GraphOf l.n l.parent) → (k : ℕ) → k < l.v → leaf_of s.graph l.root k ≡ false)
-
-abbrev pub decreases-loop-v : goal.decreases-loop-v
-decreases-loop-v l = l.n - l.v
+invariant-loop-v l = ((s : GraphOf l.graph.n l.graph.parent) → (k : ℕ) → k < l.v → leaf_of s.graph l.root k ≡ false)

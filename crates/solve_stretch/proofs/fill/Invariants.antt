@@ -16,7 +16,7 @@ invariant-loop-last l =
     × (length l.states ≡ length l.initial.states)
     × (length l.trail ≡ length l.initial.trail)
     × (length l.out ≡ length l.initial.out)
-    × ((g : Graph) → Fits g l.trees l.owner → Stands g l.initial.trail l.initial.states l.initial.at l.initial.last → Stands g l.trail l.states l.at l.last × Handed g l.initial.last l.initial.out l.last l.end l.out)
+    × ((g : Graph) → Fits g l.trees → Stands g l.initial.trail l.initial.states l.initial.at l.initial.last → Stands g l.trail l.states l.at l.last × Handed g l.initial.last l.initial.out l.last l.end l.out)
 
 abbrev pub decreases-loop-last : goal.decreases-loop-last
 decreases-loop-last l = limit - l.last

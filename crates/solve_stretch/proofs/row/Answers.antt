@@ -10,6 +10,6 @@ returns c =
     let a = c.args in
     let h : a.at ≤ length a.out.now = omega (arith, c.requires.2) in
     record {
-      out_unchanged = row_rest a.at a.trees.n a.out.now _ h c.read_off.ensures.out_unchanged;
-      out_after = λ g ends x. row_first a.at a.trees.n a.out.now _ h _ (c.read_off.ensures.out_after g ends x);
+      out_unchanged = row_rest a.at a.trees.now.n a.out.now _ h c.read_off.ensures.out_unchanged;
+      out_after = λ g ends x. row_first a.at a.trees.now.n a.out.now _ h _ (c.read_off.ensures.out_after g ends x);
     }

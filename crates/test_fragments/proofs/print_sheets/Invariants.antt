@@ -1,9 +1,6 @@
--- The next sheet begins within the input.
-use Rattle.std.proofs.Common.{length, ◌-◌, ◌≤◌}
+-- Each sheet takes the two bytes of its length at least.
+use Rattle.std.proofs.Common.{length}
 use Rattle.test_fragments.proofs.print_sheets.Given as goal
 
-abbrev pub invariant-loop-at : goal.invariant-loop-at
-invariant-loop-at g l = l.at ≤ length l.input
-
-abbrev pub decreases-loop-at : goal.decreases-loop-at
-decreases-loop-at g l = length l.input - l.at
+abbrev pub decreases-loop-left : goal.decreases-loop-left
+decreases-loop-left g l = length l.left

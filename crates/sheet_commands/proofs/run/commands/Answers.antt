@@ -1,28 +1,57 @@
 -- The first command begins a run, and each turn leaves it further on.
 use mathlib.Core.Path.{◌≡◌, refl}
-use Rattle.sheet_commands.specs.Step.{passed_at}
-use Rattle.sheet_commands.proofs.Runs.{running_first, going, running_on, ran, Further}
+use native.Mathlib.Nat.{zero-add}
+use Rattle.std.proofs.Common.{rules}
+use Rattle.std.specs.Prelude.{Ok}
+use Rattle.sheet_commands.specs.Step.{step_at}
+use Rattle.sheet_commands.proofs.Runs.{nearer, few_nodes, first_refused, begin_refused, running_first, next_refused, next_ended, turn_refused, running_on}
 use Rattle.sheet_commands.proofs.run.commands.Goals as goal
+use Rattle.sheet_commands.proofs.run.commands.Goals.{In_ok-command}
 
--- the run of a turn that takes a command, seen from where the loop stands
-further : (c : goal.After-reader-in-loop-run-1) → Further c.args.form c.args.sheet.now c.loop-run.reader.at c.in-Going.n c.in-Going.edges c.loop-run.parent c.loop-run.low c.loop-run.high (rw c.in-Going.is at c.loop-run.invariant.running) c.turn-run.result c.turn-run.new.parent c.turn-run.new.low c.turn-run.new.high (passed_at c.loop-run.reader.form c.loop-run.reader.sheet.now c.loop-run.reader.at)
-further c =
-    let r = c.loop-run.reader in
-    let here : passed_at r.form r.sheet.now r.at ≡ passed_at c.args.form c.args.sheet.now r.at = rw (c.loop-run.invariant.same_sheet, c.loop-run.invariant.same_form) in
-    running_on c.args.form c.args.sheet.now r.at c.in-Going.n c.in-Going.edges c.loop-run.parent c.loop-run.low c.loop-run.high (rw c.in-Going.is at c.loop-run.invariant.running) c.turn-run.result c.turn-run.new.parent c.turn-run.new.low c.turn-run.new.high
-    (passed_at r.form r.sheet.now r.at) here (rw c.next-taken.ensures at c.turn-run.ensures)
+pub returns-in_err-next : goal.returns-in_err-next
+returns-in_err-next c = let refused = first_refused c.args.form c.args.sheet.now _ c.in_err-next.ensures.taken in search (rules, refused)
 
-pub loop-run-init : goal.loop-run-init
-loop-run-init c = rw (c.begin-run.ensures, c.next-first.ensures) (record { same_sheet = refl; same_form = refl; running = running_first c.args.form c.args.sheet.now c.args.parent.now c.args.low.now c.args.high.now c.requires (passed_at c.args.form c.args.sheet.now 0) refl })
+pub returns-in_err-graph : goal.returns-in_err-graph
+returns-in_err-graph c =
+    let refused = begin_refused c.args.form c.args.sheet.now _ c.in_ok-next.ensures.taken _ c.in_err-graph.ensures in search (rules, refused)
 
-pub returns-in_default : goal.returns-in_default
-returns-in_default c = ran c.args.form c.args.sheet.now c.loop-run.reader.at c.loop-run.run c.loop-run.parent c.loop-run.low c.loop-run.high c.loop-run.invariant.running c.in_default.not-Going
+pub loop-graph-init : goal.loop-graph-init
+loop-graph-init c =
+    let first = running_first c.args.form c.args.sheet.now _ c.in_ok-next.ensures.taken c.in_ok-graph.graph c.in_ok-graph.ensures.0 c.in_ok-graph.ensures.1 in
+    rw c.in_ok-next.ensures.moved (record { same_sheet = refl; same_form = refl; running = rw zero-add first })
 
-pub turn-run-requires : goal.turn-run-requires
-turn-run-requires c = going c.args.form c.args.sheet.now c.loop-run.reader.at c.in-Going.n c.in-Going.edges c.loop-run.parent c.loop-run.low c.loop-run.high (rw c.in-Going.is at c.loop-run.invariant.running)
+pub turn-requires : goal.turn-requires
+turn-requires c = few_nodes _ _ _ _ c.loop-graph.invariant.running
 
-pub loop-run-smaller : goal.loop-run-smaller
-loop-run-smaller c = rw (c.in-Going.is, c.next-taken.ensures) (further c).1
+pub returns-in_err-command : goal.returns-in_err-command
+returns-in_err-command c =
+    let i = c.loop-graph.invariant in
+    let refused = next_refused c.args.form c.args.sheet.now _ c.loop-graph.graph i.running _ (rw (i.same_sheet, i.same_form) at c.in_err-command.ensures.taken) in search (rules, refused)
 
-pub loop-run-preserved : goal.loop-run-preserved
-loop-run-preserved c = rw c.next-taken.ensures (record { same_sheet = c.loop-run.invariant.same_sheet; same_form = c.loop-run.invariant.same_form; running = (further c).0 })
+pub returns-in-End : goal.returns-in-End
+returns-in-End c =
+    let i = c.loop-graph.invariant in
+    next_ended c.args.form c.args.sheet.now _ c.loop-graph.graph i.running (rw (i.same_sheet, i.same_form, c.in-End.is) at c.in_ok-command.ensures.taken)
+
+-- the command that is taken, seen from where the loop stands
+here : (c : In_ok-command) → Ok c.in_ok-command.command ≡ step_at c.args.form c.args.sheet.now c.loop-graph.reader.at
+here c = let i = c.loop-graph.invariant in rw (i.same_sheet, i.same_form) at c.in_ok-command.ensures.taken
+
+pub returns-in_err-turn-in_default : goal.returns-in_err-turn-in_default
+returns-in_err-turn-in_default c =
+    let refused = turn_refused c.args.form c.args.sheet.now _ c.loop-graph.graph c.loop-graph.invariant.running c.in_ok-command.command (here (goal.at.returns-in_err-turn-in_default c).In_ok-command)
+    c.turn.result c.turn.new.graph c.turn.ensures.turned _ c.in_err-turn-in_default.was in search (rules, refused)
+
+pub loop-graph-smaller : goal.loop-graph-smaller
+loop-graph-smaller c =
+    rw c.in_ok-command.ensures.moved (nearer c.args.form c.args.sheet.now c.loop-graph.reader.at c.in_ok-command.command (here (goal.at.loop-graph-smaller c).In_ok-command))
+
+pub loop-graph-preserved : goal.loop-graph-preserved
+loop-graph-preserved c =
+    let i = c.loop-graph.invariant in
+    rw c.in_ok-command.ensures.moved
+    (record {
+      same_sheet = i.same_sheet;
+      same_form = i.same_form;
+      running = running_on c.args.form c.args.sheet.now _ c.loop-graph.graph i.running c.in_ok-command.command (here (goal.at.loop-graph-preserved c).In_ok-command) c.turn.result c.turn.new.graph c.turn.ensures.turned c.in_default.not-End c.in_ok-turn-in_default.was;
+    })

@@ -1,14 +1,14 @@
--- The reader stands in the same sheet, and the run is what its commands so far come to.
-use Rattle.std.proofs.Common.{◌≡◌}
-use Rattle.sheet_commands.specs.Run.{Running, left_of}
+-- The reader stands in the same sheet, and the graph is what its commands so far come to.
+use Rattle.std.proofs.Common.{◌≡◌, ◌-◌, length}
+use Rattle.sheet_commands.specs.Run.{Running}
 use Rattle.sheet_commands.proofs.run.commands.Given as goal
 
-abbrev pub invariant-loop-run : goal.invariant-loop-run
-invariant-loop-run l = record {
+abbrev pub invariant-loop-graph : goal.invariant-loop-graph
+invariant-loop-graph l = record {
   same_sheet : l.reader.sheet.now ≡ l.fn.sheet;
   same_form : l.reader.form ≡ l.fn.form;
-  running : Running l.fn.form l.fn.sheet l.reader.at l.run l.parent l.low l.high;
+  running : Running l.fn.form l.fn.sheet l.reader.at l.graph;
 }
 
-abbrev pub decreases-loop-run : goal.decreases-loop-run
-decreases-loop-run l = left_of l.fn.sheet l.reader.at l.run
+abbrev pub decreases-loop-graph : goal.decreases-loop-graph
+decreases-loop-graph l = length l.fn.sheet - l.reader.at

@@ -8,9 +8,9 @@ returns-then-has c =
     let a = c.args in
     rw (c.is_empty.ensures, not_not) (sym (stray_inner a.row a.l a.inner a.roots (sym c.has.ensures ∙ c.if-has.true)))
 
-pub returns : goal.returns
-returns c =
+pub returns-else-has : goal.returns-else-has
+returns-else-has c =
     let a = c.args in
-    rw (c.is_empty-2.ensures, not_not)
+    rw (c.is_empty-else-has.ensures, not_not)
     (any_ext 128 _ _ (λ k h. c.difference.ensures k)
     ∙ sym (stray_leaf a.row a.l a.inner a.roots (sym c.has.ensures ∙ c.if-has.false)))

@@ -1,10 +1,14 @@
-use Prim.Native.Nat.{◌-◌}
-use lib.ListN.{length}
+use Rattle.std.proofs.Common.{◌≡◌, ◌-◌, length}
+use Rattle.format.specs.declared.Form.TheVariants.{Labelled}
 use Rattle.sheet_labels.proofs.Gathers.{Gathers}
 use Rattle.sheet_labels.proofs.gather.labels_of.Given as goal
 
-abbrev pub invariant-loop-passed : goal.invariant-loop-passed
-invariant-loop-passed l = Gathers l.sheet l.at l.labels
+abbrev pub invariant-loop-command : goal.invariant-loop-command
+invariant-loop-command l = record {
+  same_sheet : l.reader.sheet.now ≡ l.fn.sheet;
+  same_form : l.reader.form ≡ Labelled;
+  gathers : Gathers l.fn.sheet l.reader.at l.labels;
+}
 
-abbrev pub decreases-loop-passed : goal.decreases-loop-passed
-decreases-loop-passed l = length l.sheet - l.at
+abbrev pub decreases-loop-command : goal.decreases-loop-command
+decreases-loop-command l = length l.fn.sheet - l.reader.at

@@ -1,27 +1,25 @@
+use Prim.Native.Nat.{ℕ, ◌+◌, ◌-◌, ◌<◌}
+use mathlib.Core.Path.{◌≡◌, subst}
 use native.Mathlib.Omega.{arith}
+use Rattle.solve_levels.specs.Decisions.{upper_at, lower_at}
 use Rattle.solve_branch.proofs.Walks.{second_or_after}
 use Rattle.solve_branch.proofs.dive.back.Goals as goal
 
-pub loop-at-init : goal.loop-at-init
-loop-at-init c = (omega arith, λ i a b. absurd (omega arith))
+pub loop-last-init : goal.loop-last-init
+loop-last-init c = λ i a b. absurd (omega arith)
 
-pub bounds-trail-last : goal.bounds-trail-last
-bounds-trail-last c = omega (arith, c.loop-at.invariant.0, c.requires)
+pub returns-then-taken : goal.returns-then-taken
+returns-then-taken c =
+    let l = c.loop-last in
+    let same : l.last - 1 ≡ l.last - 1 + 1 - 1 = omega arith in
+    record { fewer = omega (arith, l.auto.last, c.loop-last-test.true); seconds = λ i a b. l.invariant i (omega arith) b; first = λ h. subst (λ (i : ℕ). upper_at c.args.trail.now i < lower_at c.args.trail.now i) same c.if-taken.true }
 
-pub bounds-trail-last-in-loop-at : goal.bounds-trail-last-in-loop-at
-bounds-trail-last-in-loop-at c = omega (arith, c.loop-at.invariant.0, c.requires)
-
-pub returns-then-trail-last : goal.returns-then-trail-last
-returns-then-trail-last c = record { fewer = c.loop-at.invariant.0; seconds = c.loop-at.invariant.1; first = λ h. c.if-trail-last.true }
-
-pub loop-at-preserved : goal.loop-at-preserved
-loop-at-preserved c =
-    let l = c.loop-at in (
-      omega (arith, l.invariant.0),
-      λ i a b. second_or_after c.args.trail.now l.at i c.if-trail-last.false (λ h. l.invariant.1 i h b) a,
-    )
+pub loop-last-preserved : goal.loop-last-preserved
+loop-last-preserved c =
+    let l = c.loop-last in
+    λ i a b. second_or_after c.args.trail.now l.last i c.if-taken.false (λ h. l.invariant i h b) a
 
 pub returns : goal.returns
 returns c =
-    let l = c.loop-at in
-    record { fewer = omega arith; seconds = λ i a b. l.invariant.1 i (omega arith) b; first = λ h. absurd (omega arith) }
+    let l = c.loop-last in
+    record { fewer = omega arith; seconds = λ i a b. l.invariant i (omega arith) b; first = λ h. absurd (omega arith) }

@@ -1,5 +1,5 @@
 -- No leaf passed has an edge.
-use Prim.Native.Nat.{ℕ, ◌-◌, ◌≤◌, ◌<◌}
+use Prim.Native.Nat.{ℕ, ◌≤◌, ◌<◌}
 use mathlib.Core.Path.{◌≡◌}
 use mathlib.Core.Bool.{false}
 use Rattle.base_finite.specs.Below.{any}
@@ -8,7 +8,4 @@ use Rattle.solve_cycle.proofs.minimal.first_leaf.Given as goal
 
 abbrev pub invariant-loop-l : goal.invariant-loop-l
 invariant-loop-l l =
-    (l.l ≤ l.n) × ((k : ℕ) → k < l.l → any 128 (in_row l.low l.high k) ≡ false)
-
-abbrev pub decreases-loop-l : goal.decreases-loop-l
-decreases-loop-l l = l.n - l.l
+    (l.l ≤ l.graph.n) × ((k : ℕ) → k < l.l → any 128 (in_row l.graph.heads k) ≡ false)

@@ -1,34 +1,29 @@
-use mathlib.Core.Path.{◌≡◌, ◌∙◌, sym}
+use Prim.Native.Nat.{ℕ}
+use mathlib.Core.Path.{◌≡◌, refl, subst}
+use Rattle.solve_cycle.specs.Thinning.{Thinned, before}
 use native.Mathlib.Omega.{arith}
-use Rattle.solve_cycle.proofs.Thins.{thinned_start}
+use Rattle.solve_cycle.proofs.Thins.{known_still, same_trees, thinned_start}
 use Rattle.solve_cycle.proofs.minimal.minimize.Goals as goal
 
 pub loop-l-init : goal.loop-l-init
 loop-l-init c =
-    let a = c.args in
-    (omega arith, c.requires.1, λ u. thinned_start a.trees.n a.parent.now a.low.now a.high.now u)
+    (omega arith, record { nodes = refl; parents = refl }, λ u. thinned_start c.args.graph.now u)
 
 pub settle_row-requires : goal.settle_row-requires
 settle_row-requires c =
-    (c.requires.0, c.loop-l.invariant.1, omega (arith, c.requires.0.parents_are.few))
+    (known_still c.loop-l.invariant.1 c.requires, omega (arith, c.requires.nodes, c.requires.parents_are.few))
 
 pub overflow_step-l : goal.overflow_step-l
-overflow_step-l c = omega (arith, c.requires.0.parents_are.few)
+overflow_step-l c = omega (arith, c.requires.nodes, c.requires.parents_are.few)
 
 pub loop-l-preserved : goal.loop-l-preserved
 loop-l-preserved c =
     let l = c.loop-l in
-    let k = c.settle_row in
-    (omega arith, (k.auto.low ∙ l.invariant.1.0, k.auto.high ∙ l.invariant.1.1), λ u. k.ensures u.graph (l.invariant.2 u))
-
-pub shape_of-low : goal.shape_of-low
-shape_of-low c = c.loop-l.invariant.1.0 ∙ sym c.requires.1.0
-
-pub shape_of-high : goal.shape_of-high
-shape_of-high c = c.loop-l.invariant.1.1 ∙ sym c.requires.1.1
+    let k = c.settle_row.ensures in
+    (omega arith, same_trees l.invariant.1 k.same, λ u. k.thinned u.graph (l.invariant.2 u))
 
 pub returns : goal.returns
-returns c = λ u.
+returns c =
     let l = c.loop-l in
-    let e : l.l ≡ c.args.trees.n = omega arith in
-    rw e at (l.invariant.2 u)
+    let all : l.l ≡ l.graph.n = omega (arith, c.requires.nodes, l.invariant.1.nodes) in
+    record { same = l.invariant.1; thinned = λ u. subst (λ (k : ℕ). Thinned u.graph l.graph (before k)) all (l.invariant.2 u) }

@@ -1,5 +1,5 @@
 -- The nodes passed that an edge joins to u are in the set.
-use Prim.Native.Nat.{ℕ, ◌-◌, ◌≤◌}
+use Prim.Native.Nat.{ℕ, ◌≤◌}
 use mathlib.Core.Path.{◌≡◌}
 use mathlib.Core.Bool.{◌&&◌}
 use lib.Dec.{ltb}
@@ -8,7 +8,4 @@ use Rattle.solve_cycle.specs.Searching.{joined_in}
 use Rattle.solve_cycle.proofs.search.near_row.Given as goal
 
 abbrev pub invariant-loop-v : goal.invariant-loop-v
-invariant-loop-v l = (l.v ≤ l.n) × ((x : ℕ) → mem l.set x ≡ (ltb x l.v && joined_in l.parent l.low l.high l.u x))
-
-abbrev pub decreases-loop-v : goal.decreases-loop-v
-decreases-loop-v l = l.n - l.v
+invariant-loop-v l = (l.v ≤ l.graph.n) × ((x : ℕ) → mem l.set x ≡ (ltb x l.v && joined_in l.graph.parent l.graph.heads l.u x))

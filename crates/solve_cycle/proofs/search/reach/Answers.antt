@@ -2,7 +2,7 @@
 use mathlib.Core.Path.{ap}
 use mathlib.Core.Bool.{not}
 use native.Mathlib.Omega.{arith}
-use Rattle.base_tables.specs.Sets.{in_row}
+use Rattle.base_tables.specs.Rows.{in_row}
 use Rattle.solve_cycle.proofs.Searches.{few_found, room, reached_before, reached_not, reached_new}
 use Rattle.solve_cycle.proofs.search.reach.Goals as goal
 
@@ -15,12 +15,11 @@ returns-then-place-v c = reached_before _ (in_row c.args.near.now) _ _ _ _ c.req
 pub bounds-queue-from : goal.bounds-queue-from
 bounds-queue-from c = omega (arith, c.requires.queue.queue_long, c.requires.long.1, c.requires.long.2, few_found _ (in_row c.args.near.now) _ _ _ _ c.requires.queue)
 
-pub in_row-requires : goal.in_row-requires
-in_row-requires c =
-    (c.requires.long.0, omega (arith, (c.requires.queue.node_at c.args.turn.from c.requires.long.2).0, c.requires.long.1), omega (arith, c.requires.long.1, c.requires.long.3))
+pub bounds-near-queue : goal.bounds-near-queue
+bounds-near-queue c = omega (arith, (c.requires.queue.node_at c.args.turn.from c.requires.long.2).0, c.requires.long.0, c.requires.long.1)
 
-pub returns-then-not-in_row : goal.returns-then-not-in_row
-returns-then-not-in_row c = reached_not _ (in_row c.args.near.now) _ _ _ _ c.requires.queue _ c.args.v c.in_row.result c.in_row.ensures (ap not c.if-not-in_row.true)
+pub returns-then-not-has : goal.returns-then-not-has
+returns-then-not-has c = reached_not _ (in_row c.args.near.now) _ _ _ _ c.requires.queue _ c.args.v c.has.result c.has.ensures (ap not c.if-not-has.true)
 
 pub overflow_cast-queue-2 : goal.overflow_cast-queue-2
 overflow_cast-queue-2 c = omega (arith, c.requires.long.1, c.requires.long.3)
@@ -45,4 +44,4 @@ overflow_add-result c = omega (arith, c.requires.long.1, few_found _ (in_row c.a
 
 pub returns : goal.returns
 returns c =
-    reached_new _ (in_row c.args.near.now) _ _ _ _ c.requires.queue c.requires.long.1 c.args.turn.from c.args.v c.requires.long.2 c.requires.long.3 c.if-place-v.false c.in_row.result c.in_row.ensures (ap not c.if-not-in_row.false)
+    reached_new _ (in_row c.args.near.now) _ _ _ _ c.requires.queue c.requires.long.1 c.args.turn.from c.args.v c.requires.long.2 c.requires.long.3 c.if-place-v.false c.has.result c.has.ensures (ap not c.if-not-has.false)

@@ -1,6 +1,6 @@
 use mathlib.Core.Path.{◌≡◌, sym, ◌∙◌}
 use native.Mathlib.Omega.{arith}
-use Rattle.base_tables.specs.Sets.{in_row}
+use Rattle.base_tables.specs.Rows.{in_row}
 use Rattle.solve_cycle.proofs.Searches.{few_found, searched_start, searched_more}
 use Rattle.solve_cycle.proofs.search.search.Goals as goal
 

@@ -1,6 +1,6 @@
 -- What is near one of the first nodes gone through is found.
 use Prim.Native.Nat.{◌-◌, ◌≤◌}
-use Rattle.base_tables.specs.Sets.{in_row}
+use Rattle.base_tables.specs.Rows.{in_row}
 use Rattle.solve_cycle.specs.Searching.{Searched}
 use Rattle.solve_cycle.proofs.search.search.Given as goal
 

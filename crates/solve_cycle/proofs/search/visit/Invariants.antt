@@ -1,7 +1,7 @@
 -- The nodes passed that are near it are found.
 use Prim.Native.Nat.{◌-◌, ◌≤◌}
 use lib.ListN.{get_or}
-use Rattle.base_tables.specs.Sets.{in_row}
+use Rattle.base_tables.specs.Rows.{in_row}
 use Rattle.solve_cycle.specs.Searching.{Visited}
 use Rattle.solve_cycle.proofs.search.visit.Given as goal
 

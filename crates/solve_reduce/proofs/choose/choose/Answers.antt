@@ -1,23 +1,26 @@
 -- The lowest fork, and the two lowest of its leaves.
+use mathlib.Core.Path.{refl}
+use lib.ListN.{get_or}
+use Rattle.base_tables.specs.Rows.{nothing}
 use native.Mathlib.Omega.{arith}
 use Rattle.solve_reduce.proofs.Choices.{lowest_below, unforked, second_there, chosen}
 use Rattle.solve_reduce.proofs.choose.choose.Goals as goal
 
-pub set_at-requires : goal.set_at-requires
-set_at-requires c =
+pub bounds-sets-n : goal.bounds-sets-n
+bounds-sets-n c =
     omega (arith, c.requires)
 
-pub returns-then-n-v : goal.returns-then-n-v
-returns-then-n-v c = let a = c.args in
-    record { bounded = tt; chosen = λ g is. unforked g a.n a.sets.now is c.set_at.result c.set_at.ensures c.lowest-v.result c.lowest-v.ensures c.if-n-v.true }
+pub returns-then-n-root : goal.returns-then-n-root
+returns-then-n-root c = let a = c.args in
+    record { bounded = tt; chosen = λ g is. unforked g a.n a.sets.now is (get_or a.sets.now a.n nothing) (λ v. refl) c.lowest-root.result c.lowest-root.ensures c.if-n-root.true }
 
-pub set_at-from-requires : goal.set_at-from-requires
-set_at-from-requires c =
-    omega (arith, c.requires, c.if-n-v.false)
+pub bounds-sets-root : goal.bounds-sets-root
+bounds-sets-root c =
+    omega (arith, c.requires, c.if-n-root.false)
 
-pub returns-then-n-b : goal.returns-then-n-b
-returns-then-n-b c = let a = c.args in
-    record { bounded = tt; chosen = λ g is. absurd (second_there g a.n a.sets.now is c.set_at.result c.set_at.ensures c.lowest-v.result c.lowest-v.ensures c.if-n-v.false c.set_at-from.result c.set_at-from.ensures c.second_lowest-b.result c.second_lowest-b.ensures c.if-n-b.true) }
+pub returns-then-n-second : goal.returns-then-n-second
+returns-then-n-second c = let a = c.args in
+    record { bounded = tt; chosen = λ g is. absurd (second_there g a.n a.sets.now is (get_or a.sets.now a.n nothing) (λ v. refl) c.lowest-root.result c.lowest-root.ensures c.if-n-root.false (get_or a.sets.now c.lowest-root.result nothing) (λ v. refl) c.second_lowest-second.result c.second_lowest-second.ensures c.if-n-second.true) }
 
 pub returns : goal.returns
-returns c = let a = c.args in record { bounded = (c.if-n-v.false, omega (arith, lowest_below c.set_at-from.result c.second_lowest-b.result c.second_lowest-b.ensures (omega (arith, c.if-n-b.false, c.requires.1)), c.lowest.ensures, c.if-n-b.false), c.if-n-b.false); chosen = λ g is. chosen g a.n a.sets.now is c.set_at.result c.set_at.ensures c.lowest-v.result c.lowest-v.ensures c.if-n-v.false c.set_at-from.result c.set_at-from.ensures c.second_lowest-b.result c.second_lowest-b.ensures c.lowest.result c.lowest.ensures }
+returns c = let a = c.args in record { bounded = (c.if-n-root.false, omega (arith, lowest_below (get_or a.sets.now c.lowest-root.result nothing) c.second_lowest-second.result c.second_lowest-second.ensures (omega (arith, c.if-n-second.false, c.requires.1)), c.lowest-first.ensures, c.if-n-second.false), c.if-n-second.false); chosen = λ g is. chosen g a.n a.sets.now is (get_or a.sets.now a.n nothing) (λ v. refl) c.lowest-root.result c.lowest-root.ensures c.if-n-root.false (get_or a.sets.now c.lowest-root.result nothing) (λ v. refl) c.second_lowest-second.result c.second_lowest-second.ensures c.lowest-first.result c.lowest-first.ensures }

@@ -1,6 +1,6 @@
 -- The invariant: the leaves found so far are above, and where one has an edge to the fragment of a leaf found it is found or is to
 -- be looked at.
-use Prim.Native.Nat.{ℕ, ◌-◌, ◌≤◌, ◌<◌}
+use Prim.Native.Nat.{ℕ, ◌≤◌, ◌<◌}
 use mathlib.Core.Path.{◌≡◌}
 use mathlib.Core.Bool.{true}
 use Rattle.base_nodeset.specs.Set.{mem}
@@ -11,12 +11,9 @@ use Rattle.solve_reduce.specs.Reduced.{Reduced}
 use Rattle.solve_reduce.proofs.Rises.{Climbed}
 use Rattle.solve_reduce.proofs.over.over.Given as goal
 
-abbrev pub invariant-loop-steps : goal.invariant-loop-steps
-invariant-loop-steps at_turn =
-    (at_turn.steps ≤ 3)
+abbrev pub invariant-loop-step : goal.invariant-loop-step
+invariant-loop-step at_turn =
+    (at_turn._step ≤ 3)
     × ((l : ℕ) → mem at_turn.over l ≡ true → l < at_turn.trees.n)
     × ((l : ℕ) → mem at_turn.left l ≡ true → l < at_turn.trees.n)
-    × ((g : Graph) → Fits g at_turn.trees at_turn.owner → Loopless g → Reduced g at_turn.trees.n at_turn.sets → leaf g at_turn.a ≡ true → Climbed g at_turn.a at_turn.over at_turn.left)
-
-abbrev pub decreases-loop-steps : goal.decreases-loop-steps
-decreases-loop-steps l = 3 - l.steps
+    × ((g : Graph) → Fits g at_turn.trees → Loopless g → Reduced g at_turn.trees.n at_turn.sets → leaf g at_turn.a ≡ true → Climbed g at_turn.a at_turn.over at_turn.left)

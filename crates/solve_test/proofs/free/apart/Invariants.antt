@@ -1,7 +1,7 @@
 -- The leaves gone through are apart. With nothing seen below the next one, it is apart from them too.
 use Rattle.base_finite.specs.Below.{count}
 use Rattle.base_nodeset.specs.Set.{mem}
-use Rattle.base_tables.specs.Sets.{in_row}
+use Rattle.base_tables.specs.Rows.{in_row}
 use Rattle.solve_test.proofs.Rounds.{ApartSo}
 use Rattle.solve_test.proofs.free.apart.Given as goal
 

@@ -1,8 +1,7 @@
 -- What is left was made by taking free fragments out of the roots. A round that leaves as many was stuck.
 use Rattle.base_finite.specs.Below.{count}
 use Rattle.base_nodeset.specs.Set.{mem}
-use Rattle.base_tables.specs.Rows.{Closed}
-use Rattle.base_tables.specs.Sets.{in_row}
+use Rattle.base_tables.specs.Rows.{in_row, Closed}
 use Rattle.solve_test.specs.Free.{Taking}
 use Rattle.solve_test.proofs.free.eliminate.Given as goal
 

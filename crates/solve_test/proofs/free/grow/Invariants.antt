@@ -2,7 +2,7 @@
 use mathlib.Core.Bool.{◌||◌}
 use Rattle.base_finite.specs.Below.{count}
 use Rattle.base_nodeset.specs.Set.{mem}
-use Rattle.base_tables.specs.Sets.{in_row}
+use Rattle.base_tables.specs.Rows.{in_row}
 use Rattle.solve_test.proofs.Spreading.{Growing}
 use Rattle.solve_test.proofs.free.grow.Given as goal
 

@@ -1,7 +1,7 @@
 -- The tops gone through were tried, and those that were free are taken out.
 use Rattle.base_finite.specs.Below.{count}
 use Rattle.base_nodeset.specs.Set.{mem}
-use Rattle.base_tables.specs.Sets.{in_row}
+use Rattle.base_tables.specs.Rows.{in_row}
 use Rattle.solve_test.proofs.Rounds.{RoundSo}
 use Rattle.solve_test.proofs.free.round.Given as goal
 

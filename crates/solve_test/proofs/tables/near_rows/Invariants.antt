@@ -1,7 +1,7 @@
 -- A root gone through has put itself and the roots below it into each other's rows.
 use Rattle.base_finite.specs.Below.{count}
 use Rattle.base_nodeset.specs.Set.{mem}
-use Rattle.base_tables.specs.Sets.{in_row}
+use Rattle.base_tables.specs.Rows.{in_row}
 use Rattle.solve_test.proofs.Filled.{NearSo}
 use Rattle.solve_test.proofs.tables.near_rows.Given as goal
 

@@ -1,7 +1,7 @@
 -- The members gone through have f in their rows.
 use Rattle.base_finite.specs.Below.{count}
 use Rattle.base_nodeset.specs.Set.{mem}
-use Rattle.base_tables.specs.Sets.{in_row}
+use Rattle.base_tables.specs.Rows.{in_row}
 use Rattle.solve_test.proofs.Filled.{PutSo}
 use Rattle.solve_test.proofs.tables.put_all.Given as goal
 

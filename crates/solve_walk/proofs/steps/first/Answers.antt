@@ -1,6 +1,6 @@
 -- No decision is taken at the outset, and a graph that has a solved form is not left without a reading.
 use Rattle.solve_branch.proofs.Walks.{dives_outset, outset_stays}
-use Rattle.solve_branch.proofs.Dived.{arrived_to, arrived_stuck}
+use Rattle.solve_branch.proofs.Ways.{arrived_to, arrived_stuck}
 use Rattle.solve_walk.proofs.steps.first.Goals as goal
 
 pub start-outset-requires : goal.start-outset-requires
@@ -24,4 +24,4 @@ returns c =
     λ s.
     let w = s.walked in
     let d = dives_outset s.solvable c.start-outset.ensures.depth_value.0 c.start-outset.ensures.depth_value.1 c.start-outset.ensures.depth_value.2 (c.start-outset.ensures.cases w.graph c.args.trail.now w.fits s.rows_are) in
-    arrived_to w.graph _ _ 0 c.start-outset.result.depth c.in-To.is (c.descend.ensures.arrives w.graph 0 w.fits d)
+    arrived_to w.graph _ _ 0 c.start-outset.result.depth c.in-Ok.is (c.descend.ensures.arrives w.graph 0 w.fits d)

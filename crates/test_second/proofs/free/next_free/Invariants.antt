@@ -1,8 +1,0 @@
-use Rattle.std.proofs.Common.{◌-◌}
-use Rattle.test_second.proofs.free.next_free.Given as goal
-
-abbrev pub invariant-loop-f : goal.invariant-loop-f
-invariant-loop-f l = Unit {0}
-
-abbrev pub decreases-loop-f : goal.decreases-loop-f
-decreases-loop-f l = 64 - l.f
