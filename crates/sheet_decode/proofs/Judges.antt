@@ -7,7 +7,7 @@ use native.Mathlib.Omega.{arith}
 use lib.ListN.{get_or}
 use borrow.Author.Tests.{eq-eqb, ne_eqb, lt-ltb, le-ltb}
 use Rattle.base_finite.specs.Below.{any, count}
-use Rattle.base_finite.proofs.Laws.{by_bool, any_ext, any_cut, any_found, and_true, and_both}
+use Rattle.base_finite.proofs.Laws.{by_bool, any_ext, any_cut, any_found, and_both}
 use Rattle.base_nodeset.specs.Set.{mem, Difference, Union}
 use Rattle.base_nodeset.specs.declared.NodeSet.{NodeSet}
 use Rattle.theory_edges.specs.Edges.{Within, graph_with}
@@ -23,7 +23,7 @@ use Rattle.base_tables.specs.Tables.{Holds}
 use Rattle.base_tables.specs.Trees.{InnerSet, RootSet}
 use Rattle.sheet_grow.specs.Grow.{BareSet}
 use Rattle.sheet_grow.proofs.Grown.{bare_set, set_counted, bare_held, bare_counted}
-use Rattle.sheet_decode.specs.Judge.{rises_in, cyclic_in, strays, astray_in}
+use Rattle.sheet_decode.specs.Judge.{rises_in, cyclic_in, astray_in}
 
 -- one edge up
 
@@ -43,14 +43,6 @@ pub rises_top : (k : ℕ) (parents : List ℕ) (v : ℕ) → k ≤ 0 → rises_i
 unfolding rises_in
 rises_top zero parents v h = refl
 rises_top (suc k) parents v h = absurd (omega arith)
-
--- the edges of one row
-
-pub stray_inner : (row : NodeSet) (l : ℕ) (inner roots : NodeSet) → mem inner l ≡ true → strays (mem row) l inner roots ≡ any 128 (mem row)
-stray_inner row l inner roots e = any_ext 128 _ _ (λ k h. rw (e, and_true))
-
-pub stray_leaf : (row : NodeSet) (l : ℕ) (inner roots : NodeSet) → mem inner l ≡ false → strays (mem row) l inner roots ≡ any 128 (λ r. mem row r && not (mem roots r))
-stray_leaf row l inner roots e = any_ext 128 _ _ (λ k h. rw e)
 
 -- the tests on tables that hold a graph's edges
 

@@ -20,6 +20,9 @@ use sheet_labels::fit::{holed, mislabelled, overlapping};
 use sheet_labels::gather::labels_of;
 use sheet_labels::table::Labels;
 
+// The most nodes of a sheet, with the added leaves.
+const MOST_NODES: usize = 128;
+
 // n edges lead up from v, one above the other.
 fn rises(parent: &[u8], n: usize, v: usize) -> bool
     requires { Parents n parent.now × (v < n) }
@@ -86,7 +89,7 @@ pub fn judge(graph: &Graph) -> Result<(), Refusal>
     let inner = inner_nodes(&graph.parent, n);
     let roots = root_nodes(&graph.parent, n);
     let bare = roots.difference(inner);
-    if 128 < n + bare.count() {
+    if MOST_NODES < n + bare.count() {
         return Err(Refusal::Overgrown);
     }
     // A bare node is no leaf: it will have one.

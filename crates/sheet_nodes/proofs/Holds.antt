@@ -52,12 +52,6 @@ module _ (t : List Edge) (p c v : ℕ) where
 abbrev pub Taken : List ℕ → ℕ → ℕ → Type 0
 Taken table p i = (j : ℕ) → j < i → get_or table (4 * p + suc j) 0 ≡ none → ⊥
 
-pub taken_more : (table : List ℕ) (p i : ℕ) → Taken table p i → (place : ℕ) → place ≡ 4 * p + suc i → (get_or table place 0 ≡ none → ⊥) → Taken table p (i + 1)
-taken_more table p i taken place is one j h free =
-    by_bool (eqb j i)
-    (λ (e : eqb j i ≡ true). let same : j ≡ i = eqb-true j i e in one (rw is (rw same at free)))
-    (λ (e : eqb j i ≡ false). let apart = eqb-false j i e in taken j (omega (arith, apart)) free)
-
 module _ {t m : List Edge} {table : List ℕ} {l : NodeSet} (holding : Holding t m table l) (p : ℕ) (h : p < 128) where
   -- a symbol more
   pub holding_label : (s : ℕ) → length table ≡ 512 → (place : ℕ) → place ≡ 4 * p → (more : NodeSet) → Inserted l p more → Holding t ((p, s) ∷ m) (set table place s) more

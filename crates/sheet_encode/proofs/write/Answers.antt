@@ -1,4 +1,4 @@
-use mathlib.Core.Path.{ap, ◌∙◌}
+use mathlib.Core.Path.{ap}
 use Prim.Native.Nat.{◌≤◌}
 use native.Mathlib.Omega.{arith}
 use lib.ListN.{length, length-set}
@@ -39,14 +39,6 @@ returns-then-out-needed c h =
     (omega (arith, c.tree_edges.ensures, held_length a.graph.now h)) in
     (rw short, rw short)
 
-pub overflow_cast-out : goal.overflow_cast-out
-overflow_cast-out c =
-    let a = c.args in
-    omega (arith, held_few a.graph.now c.requires)
-
-pub bounds-out-1 : goal.bounds-out-1
-bounds-out-1 c = simp length-set (omega arith)
-
 pub write_tree-after_tree-requires : goal.write_tree-after_tree-requires
 write_tree-after_tree-requires c =
     let a = c.args in
@@ -72,14 +64,6 @@ bounds-out-end c =
     let t = c.write_tree-after_tree in
     let d = c.write_dominance-end in
     omega (arith, t.ensures.after, d.ensures.after, c.tree_edges.ensures, held_length a.graph.now tables, held_parts a.graph.now tables, simp length-set at t.auto.out, d.auto.out)
-
-pub shape_of-out : goal.shape_of-out
-shape_of-out c =
-    let a = c.args in
-    let tables = c.requires in
-    let t = c.write_tree-after_tree in
-    let d = c.write_dominance-end in
-    simp length-set (d.auto.out ∙ (simp length-set at t.auto.out))
 
 pub returns : goal.returns
 returns c h =

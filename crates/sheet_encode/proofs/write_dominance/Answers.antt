@@ -3,7 +3,7 @@ use Rattle.base_tables.specs.Rows.{nothing}
 use Rattle.sheet_encode.specs.Tidy.{row_bytes, dominance_part}
 use Rattle.sheet_encode.proofs.Runs.{dominance_part_none, dominance_part_more, dominance_part_longer}
 use Prim.Native.Nat.{◌+◌}
-use mathlib.Core.Path.{◌≡◌, refl, ◌∙◌}
+use mathlib.Core.Path.{refl, ◌∙◌}
 use native.Mathlib.Omega.{arith}
 use Rattle.base_finite.proofs.Stores.{room, written_none, written_more}
 use Rattle.sheet_encode.proofs.write_dominance.Goals as goal
@@ -26,9 +26,3 @@ loop-l-preserved c =
       k.auto.out ∙ l.invariant.0,
       rw dominance_part_more (written_more _ _ _ l.out l.at _ _ _ l.invariant.1 k.ensures),
     )
-
-pub returns : goal.returns
-returns c =
-    let l = c.loop-l in
-    let all : l.l ≡ c.args.n = omega arith in
-    rw (← all) l.invariant.1

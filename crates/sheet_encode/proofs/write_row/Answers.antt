@@ -1,11 +1,8 @@
 use mathlib.Core.Path.{◌≡◌, refl, ◌∙◌}
 use native.Mathlib.Omega.{arith}
 use lib.ListN.{length}
-use Rattle.base_nodeset.proofs.Writing.{none_written, member_room, member_written, all_written}
+use Rattle.base_nodeset.proofs.Writing.{member_room, member_written, all_written}
 use Rattle.sheet_encode.proofs.write_row.Goals as goal
-
-pub loop-r-init : goal.loop-r-init
-loop-r-init c = (refl, none_written _ _ _ _)
 
 pub returns : goal.returns
 returns c = all_written _ _ _ _ _ _ _ c.loop-r.invariant.1 (c.pop_first.ensures.empty c.in_default.is)
@@ -19,10 +16,6 @@ pub put-requires : goal.put-requires
 put-requires c =
     let long : length c.loop-r.out ≡ length c.args.out.now = c.loop-r.invariant.0 in
     omega (arith, member_room _ _ _ _ _ _ _ c.loop-r.invariant.1 _ _ (c.pop_first.ensures.lowest _ c.in-Some.is) c.requires)
-
-pub overflow_add-at : goal.overflow_add-at
-overflow_add-at c =
-    omega (arith, member_room _ _ _ _ _ _ _ c.loop-r.invariant.1 _ _ (c.pop_first.ensures.lowest _ c.in-Some.is) c.requires, c.well_formed)
 
 pub loop-r-smaller : goal.loop-r-smaller
 loop-r-smaller c =

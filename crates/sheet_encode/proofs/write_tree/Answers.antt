@@ -2,7 +2,7 @@ use lib.ListN.{get_or}
 use Rattle.sheet_encode.specs.Tidy.{tree_bytes, tree_part}
 use Rattle.sheet_encode.proofs.Runs.{tree_part_none, tree_part_more, tree_part_longer}
 use Prim.Native.Nat.{◌+◌}
-use mathlib.Core.Path.{◌≡◌, refl, ◌∙◌}
+use mathlib.Core.Path.{refl, ◌∙◌}
 use native.Mathlib.Omega.{arith}
 use Rattle.base_finite.proofs.Stores.{room, written_none, written_more}
 use Rattle.sheet_encode.proofs.write_tree.Goals as goal
@@ -25,9 +25,3 @@ loop-c-preserved c =
       k.auto.out ∙ l.invariant.0,
       rw tree_part_more (written_more _ _ _ l.out l.at _ _ _ l.invariant.1 k.ensures),
     )
-
-pub returns : goal.returns
-returns c =
-    let l = c.loop-c in
-    let all : l.c ≡ c.args.n = omega arith in
-    rw (← all) l.invariant.1

@@ -27,17 +27,17 @@ overflow_add-n c =
     let few = c.requires.few in
     omega (arith, few, c.count.ensures, count_le 128 (mem c.difference-bare.result))
 
-pub returns-then-n-count-gt128 : goal.returns-then-n-count-gt128
-returns-then-n-count-gt128 c t d edges h =
-    let sets = sets_of (goal.at.returns-then-n-count-gt128 c).After-difference-bare in
-    whole_overgrown h sets c.count.result c.count.ensures (omega (arith, c.if-n-count-gt128.true))
+pub returns-then-n-count-gt-MOST_NODES : goal.returns-then-n-count-gt-MOST_NODES
+returns-then-n-count-gt-MOST_NODES c t d edges h =
+    let sets = sets_of (goal.at.returns-then-n-count-gt-MOST_NODES c).After-difference-bare in
+    whole_overgrown h sets c.count.result c.count.ensures (omega (arith, c.if-n-count-gt-MOST_NODES.true))
 
 pub returns-then-astray : goal.returns-then-astray
 returns-then-astray c t d edges h =
     let sets = sets_of (goal.at.returns-then-astray c).After-difference-bare in
-    whole_ends h sets c.count.result c.count.ensures (omega (arith, c.if-n-count-gt128.false)) _ c.union.ensures (sym c.astray.ensures ∙ c.if-astray.true)
+    whole_ends h sets c.count.result c.count.ensures (omega (arith, c.if-n-count-gt-MOST_NODES.false)) _ c.union.ensures (sym c.astray.ensures ∙ c.if-astray.true)
 
 pub returns : goal.returns
 returns c t d edges h =
     let sets = sets_of (goal.at.returns c).After-difference-bare in
-    whole_fitted h sets c.count.result c.count.ensures (omega (arith, c.if-n-count-gt128.false)) _ c.union.ensures (sym c.astray.ensures ∙ c.if-astray.false)
+    whole_fitted h sets c.count.result c.count.ensures (omega (arith, c.if-n-count-gt-MOST_NODES.false)) _ c.union.ensures (sym c.astray.ensures ∙ c.if-astray.false)

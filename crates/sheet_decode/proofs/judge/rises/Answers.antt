@@ -1,12 +1,8 @@
 use Prim.Native.Nat.{◌+◌, ◌-◌}
 use mathlib.Core.Path.{sym, ◌∙◌}
-use native.Mathlib.Nat.{sub-zero}
 use native.Mathlib.Omega.{arith}
 use Rattle.sheet_decode.proofs.Judges.{rises_stops, rises_goes_on, rises_top}
 use Rattle.sheet_decode.proofs.judge.rises.Goals as goal
-
-pub loop-step-init : goal.loop-step-init
-loop-step-init c = (omega (arith, c.requires.1), omega arith, rw sub-zero)
 
 pub returns-then-above : goal.returns-then-above
 returns-then-above c =
