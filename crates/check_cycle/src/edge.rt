@@ -1,4 +1,4 @@
-// Edges between two nodes, from the tables.
+// Edges between two nodes of a graph.
 ghost use Rattle.std.specs.Prelude.{◌≡◌, ◌<◌};
 ghost use Rattle.base_tables.specs.Rows.{Long};
 ghost use Rattle.check_cycle.specs.Check.{dominance_joins, joined_in, LeafSet};

@@ -12,7 +12,7 @@ use graph::NONE;
 const MOST_EDGES: usize = 255;
 
 // The first command: 3. So many nodes, and no edge.
-pub fn begin(command: Command) -> Result<Graph, Refusal>
+pub(crate) fn begin(command: Command) -> Result<Graph, Refusal>
     ensures { Begins (begun command) result }
 {
     let Command::Nodes(nodes) = command else {
@@ -77,8 +77,8 @@ fn dominance_edge(graph: &mut Graph, l: u8, r: u8) -> Result<(), Refusal>
     Ok(())
 }
 
-// A command after the first. A label, and what ends the sheet, change no table.
-pub fn turn(graph: &mut Graph, command: Command) -> Result<(), Refusal>
+// A command after the first. A label, and what ends the sheet, leave the graph as it is.
+pub(crate) fn turn(graph: &mut Graph, command: Command) -> Result<(), Refusal>
     requires { graph.old.n ≤ 128 }
     ensures turned { Turned command graph.old result graph.new }
     ensures err { OnErr result (graph.new ≡ graph.old) }

@@ -69,11 +69,7 @@ fn walk(
         Filled s.walked.graph 0 placings.old result.last placings.new × Goes s.walked.graph trail.new states.new result }
 {
     let at = first(rows, trees, states, trail);
-    let outset = Stop {
-        last: 0,
-        next: Some(at),
-    };
-    fill(trees, states, trail, outset, placings)
+    fill(trees, states, trail, at, 0, placings)
 }
 
 // The first page: line 1.
@@ -118,7 +114,8 @@ fn refill(rest: Rest, states: &mut [NodeSet], trail: &mut [Decision], placings: 
         return rest;
     }
     let trees = rest.trees;
-    let further = fill(&trees, states, trail, stop, placings);
+    let at = stop.next.unwrap();
+    let further = fill(&trees, states, trail, at, stop.last, placings);
     Rest {
         done: rest.done,
         passed: rest.done,

@@ -1,5 +1,4 @@
-// The calls on the tables of a well-formed sheet: of each node its parent, of each leaf the roots that its dominance edges
-// go to. The refusals come in document 01's order: 10, 9, 11.
+// The calls on the graph of a well-formed sheet. The refusals come in document 01's order: 10, 9, 11.
 #![tactic(auto)]
 
 ghost use Rattle.std.specs.Prelude.{◌≡◌, ◌*◌, ◌≤◌, length};

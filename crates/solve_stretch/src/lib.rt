@@ -43,18 +43,19 @@ pub fn fill(
     trees: &Trees,
     states: &mut [NodeSet],
     trail: &mut [Decision],
-    from: Stop,
+    from: Level,
+    passed: usize,
     out: &mut [u8],
 ) -> Stop
-    requires standing { ((at : Level) × (from.next ≡ Some at) × Standing trees.now trail.old states.old at from.last) × Room trees.now.n trail.old }
-    requires last_lt_limit { (from.last < limit) × (trees.now.n ≤ length out.old) }
-    ensures last_lt_last { (from.last < result.last) × (IsSome result.next → result.last < limit) }
-    ensures filled { (g : Graph) (at : Level) → Fits g trees.now → from.next ≡ Some at → Stands g trail.old states.old at from.last →
-        Filled g from.last out.old result.last out.new × Goes g trail.new states.new result }
+    requires standing { Standing trees.now trail.old states.old from passed × Room trees.now.n trail.old }
+    requires last_lt_limit { (passed < limit) × (trees.now.n ≤ length out.old) }
+    ensures last_lt_last { (passed < result.last) × (IsSome result.next → result.last < limit) }
+    ensures filled { (g : Graph) → Fits g trees.now → Stands g trail.old states.old from passed →
+        Filled g passed out.old result.last out.new × Goes g trail.new states.new result }
 {
     let n = trees.n;
-    let mut at = from.next.unwrap();
-    let mut last = from.last;
+    let mut at = from;
+    let mut last = passed;
     let mut end = 0;
     loop {
         row(states, trees, at.opened, out, end);
@@ -92,11 +93,7 @@ fn stretch_in<const S: usize, const T: usize>(
     let Ok(at) = reach(rows, trees, &mut states, &mut trail, passed + 1) else {
         return passed;
     };
-    let from = Stop {
-        last: passed,
-        next: Some(at),
-    };
-    fill(trees, &mut states, &mut trail, from, out).last
+    fill(trees, &mut states, &mut trail, at, passed, out).last
 }
 
 // The readings after the first `passed`; the number of the last, or `passed` where there is none.

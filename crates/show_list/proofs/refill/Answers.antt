@@ -2,7 +2,7 @@
 use mathlib.Core.Path.{refl}
 use native.Mathlib.Nat.{mul-le-mul}
 use native.Mathlib.Omega.{arith}
-use Rattle.show_list.proofs.Underway.{goes_on, some_there, refilled}
+use Rattle.show_list.proofs.Underway.{goes_on, refilled}
 use Rattle.show_list.proofs.refill.Goals as goal
 
 pub returns-then-rest-stop : goal.returns-then-rest-stop
@@ -12,10 +12,9 @@ pub fill-further-requires : goal.fill-further-requires
 fill-further-requires c =
     let u = c.requires.underway.1 in
     let on = goes_on u c.if-rest-stop.false in
-    let at = some_there _ on in
     let few = u.table.bounded.few in
     record {
-      standing = ((at.0, at.1, record { walked = record { graph = c.requires.underway.0; table = u.table; fits = u.fits }; stands = u.goes.on at.0 at.1 }), omega (arith, mul-le-mul few few, c.requires.in_bounds.0));
+      standing = (record { walked = record { graph = c.requires.underway.0; table = u.table; fits = u.fits }; stands = u.goes.on _ c.unwrap-at.ensures }, omega (arith, mul-le-mul few few, c.requires.in_bounds.0));
       last_lt_limit = (u.numbered on, omega (arith, few, c.requires.in_bounds.1));
     }
 
@@ -23,7 +22,6 @@ pub returns : goal.returns
 returns c = record {
   done_lt_last = omega (arith, c.fill-further.ensures.last_lt_last.0, c.requires.underway.1.to, c.if-rest-stop.false);
   underway_2 = λ g u.
-      let at = some_there _ (goes_on u c.if-rest-stop.false) in
-      let f = c.fill-further.ensures.filled g at.0 u.fits at.1 (u.goes.on at.0 at.1) in
+      let f = c.fill-further.ensures.filled g u.fits (u.goes.on _ c.unwrap-at.ensures) in
       (refilled u c.if-rest-stop.false _ f.0 f.1 c.fill-further.ensures.last_lt_last.1, refl);
 }

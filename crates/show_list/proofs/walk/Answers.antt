@@ -1,5 +1,4 @@
 -- The walk stands at the first reading, and goes on from there.
-use mathlib.Core.Path.{refl}
 use native.Mathlib.Omega.{arith}
 use Rattle.solve_numbered.proofs.Numbers.{large_tables}
 use Rattle.show_list.proofs.walk.Goals as goal
@@ -13,9 +12,9 @@ pub fill-requires : goal.fill-requires
 fill-requires c =
     let few = c.requires.walkable.walked.table.bounded.few in
     record {
-      standing = ((c.first-at.result, refl, record { walked = c.requires.walkable.walked; stands = c.first-at.ensures c.requires.walkable }), omega (arith, large_tables c.args.trees.now.n few, c.requires.in_bounds.1));
+      standing = (record { walked = c.requires.walkable.walked; stands = c.first-at.ensures c.requires.walkable }, omega (arith, large_tables c.args.trees.now.n few, c.requires.in_bounds.1));
       last_lt_limit = (omega arith, omega (arith, few, c.requires.in_bounds.2));
     }
 
 pub returns : goal.returns
-returns c = record { last_lt_limit = c.fill.ensures.last_lt_last.1; filled = λ s. c.fill.ensures.filled s.walked.graph c.first-at.result s.walked.fits refl (c.first-at.ensures s) }
+returns c = record { last_lt_limit = c.fill.ensures.last_lt_last.1; filled = λ s. c.fill.ensures.filled s.walked.graph s.walked.fits (c.first-at.ensures s) }

@@ -10,10 +10,10 @@ use Rattle.solve_stretch.proofs.Placings.{handed_none, handed_more, handed_all, 
 use Rattle.solve_stretch.proofs.fill.Goals as goal
 
 pub loop-last-init : goal.loop-last-init
-loop-last-init c = ((omega arith, c.requires.last_lt_limit.0), omega (arith, c.requires.last_lt_limit.1), refl, refl, refl, λ g f x. (x, handed_none g c.args.from.last c.args.out.now))
+loop-last-init c = ((omega arith, c.requires.last_lt_limit.0), omega (arith, c.requires.last_lt_limit.1), refl, refl, refl, λ g f x. (x, handed_none g c.args.passed c.args.out.now))
 
 pub row-requires : goal.row-requires
-row-requires c = (omega (arith, stack_here c.args.trees.now.n c.requires.standing.0.2.walked.fits.trees.nodes c.requires.standing.0.2.stands.matches, c.loop-last.invariant.2), c.requires.standing.0.2.walked.table.bounded, c.loop-last.invariant.1)
+row-requires c = (omega (arith, stack_here c.args.trees.now.n c.requires.standing.0.walked.fits.trees.nodes c.requires.standing.0.stands.matches, c.loop-last.invariant.2), c.requires.standing.0.walked.table.bounded, c.loop-last.invariant.1)
 
 pub overflow_add-last : goal.overflow_add-last
 overflow_add-last c = omega (arith, c.loop-last.invariant.0)
@@ -24,11 +24,11 @@ overflow_add-end c = omega (arith, c.loop-last.invariant.1, c.loop-last.invarian
 pub returns-then-last-eq-LAST : goal.returns-then-last-eq-LAST
 returns-then-last-eq-LAST c = let l = c.loop-last in record {
   last_lt_last = (omega (arith, l.invariant.0), λ e. absurd (true≢false (sym e)));
-  filled = λ g at f is x.
-      let y = l.invariant.5 g f (stands_taken is c.unwrap-at.ensures x) in
+  filled = λ g f x.
+      let y = l.invariant.5 g f x in
       let all = stands_within f y.0 l.invariant.0.1 in (
-        handed_all g c.args.from.last c.args.out.now (l.last + 1) (l.end + c.args.trees.now.n) _ (omega (arith, l.invariant.0.0)) all (inl (omega (arith, all, c.if-last-eq-LAST.true)))
-            (handed_more f y.0 c.args.from.last c.args.out.now _ _ _ l.invariant.1 c.row.auto.out c.row.ensures.out_unchanged c.row.ensures.out_after y.1),
+        handed_all g c.args.passed c.args.out.now (l.last + 1) (l.end + c.args.trees.now.n) _ (omega (arith, l.invariant.0.0)) all (inl (omega (arith, all, c.if-last-eq-LAST.true)))
+            (handed_more f y.0 c.args.passed c.args.out.now _ _ _ l.invariant.1 c.row.auto.out c.row.ensures.out_unchanged c.row.ensures.out_after y.1),
         record { on = λ at e. absurd (none-some at e); ended = λ e. omega (arith, all, c.if-last-eq-LAST.true) },
       );
 }
@@ -36,18 +36,18 @@ returns-then-last-eq-LAST c = let l = c.loop-last in record {
 pub next-requires : goal.next-requires
 next-requires c =
     let l = c.loop-last in
-    let p = c.requires.standing.0.2 in
-    ((l.last, record { walked = p.walked; stands = (l.invariant.5 p.walked.graph p.walked.fits (stands_taken c.requires.standing.0.1 c.unwrap-at.ensures p.stands)).0 }), omega (arith, c.requires.standing.1, l.invariant.3))
+    let p = c.requires.standing.0 in
+    ((l.last, record { walked = p.walked; stands = (l.invariant.5 p.walked.graph p.walked.fits p.stands).0 }), omega (arith, c.requires.standing.1, l.invariant.3))
 
 pub returns-in_default : goal.returns-in_default
 returns-in_default c = let l = c.loop-last in record {
   last_lt_last = (omega (arith, l.invariant.0), λ e. absurd (true≢false (sym e)));
-  filled = λ g at f is x.
-      let y = l.invariant.5 g f (stands_taken is c.unwrap-at.ensures x) in
+  filled = λ g f x.
+      let y = l.invariant.5 g f x in
       let all = stands_within f y.0 l.invariant.0.1 in
       let end = moved_end g _ _ (l.last + 1) c.in_default.is (c.next.ensures g l.last f y.0) in (
-        handed_all g c.args.from.last c.args.out.now (l.last + 1) (l.end + c.args.trees.now.n) _ (omega (arith, l.invariant.0.0)) all (inl (omega (arith, all, end, l.invariant.0)))
-            (handed_more f y.0 c.args.from.last c.args.out.now _ _ _ l.invariant.1 c.row.auto.out c.row.ensures.out_unchanged c.row.ensures.out_after y.1),
+        handed_all g c.args.passed c.args.out.now (l.last + 1) (l.end + c.args.trees.now.n) _ (omega (arith, l.invariant.0.0)) all (inl (omega (arith, all, end, l.invariant.0)))
+            (handed_more f y.0 c.args.passed c.args.out.now _ _ _ l.invariant.1 c.row.auto.out c.row.ensures.out_unchanged c.row.ensures.out_after y.1),
         record { on = λ at e. absurd (none-some at e); ended = λ e. omega (arith, all, end, l.invariant.0) },
       );
 }
@@ -55,11 +55,11 @@ returns-in_default c = let l = c.loop-last in record {
 pub returns-then-out-end : goal.returns-then-out-end
 returns-then-out-end c = let l = c.loop-last in record {
   last_lt_last = (omega (arith, l.invariant.0), λ e. omega (arith, l.invariant.0, c.if-last-eq-LAST.false));
-  filled = λ g at f is x.
-      let y = l.invariant.5 g f (stands_taken is c.unwrap-at.ensures x) in
+  filled = λ g f x.
+      let y = l.invariant.5 g f x in
       let all = stands_within f y.0 l.invariant.0.1 in (
-        handed_all g c.args.from.last c.args.out.now (l.last + 1) (l.end + c.args.trees.now.n) _ (omega (arith, l.invariant.0.0)) all (inr (omega (arith, c.if-out-end.true, f.trees.nodes, l.invariant.4, c.row.auto)))
-            (handed_more f y.0 c.args.from.last c.args.out.now _ _ _ l.invariant.1 c.row.auto.out c.row.ensures.out_unchanged c.row.ensures.out_after y.1),
+        handed_all g c.args.passed c.args.out.now (l.last + 1) (l.end + c.args.trees.now.n) _ (omega (arith, l.invariant.0.0)) all (inr (omega (arith, c.if-out-end.true, f.trees.nodes, l.invariant.4, c.row.auto)))
+            (handed_more f y.0 c.args.passed c.args.out.now _ _ _ l.invariant.1 c.row.auto.out c.row.ensures.out_unchanged c.row.ensures.out_after y.1),
         record { on = λ here e. stands_taken refl e (moved_to g _ _ (l.last + 1) c.in-Some.is (c.next.ensures g l.last f y.0)); ended = λ e. absurd (none-some _ (sym e)) },
       );
 }
@@ -78,6 +78,6 @@ loop-last-preserved c =
       λ g f x.
           let y = l.invariant.5 g f x in (
             moved_to g _ _ (l.last + 1) c.in-Some.is (c.next.ensures g l.last f y.0),
-            handed_more f y.0 c.args.from.last c.args.out.now _ _ _ l.invariant.1 c.row.auto.out c.row.ensures.out_unchanged c.row.ensures.out_after y.1,
+            handed_more f y.0 c.args.passed c.args.out.now _ _ _ l.invariant.1 c.row.auto.out c.row.ensures.out_unchanged c.row.ensures.out_after y.1,
           ),
     )

@@ -16,9 +16,9 @@ returns-in_default g c = λ s. inl (none_left s.walked.graph _ _ c.args.passed (
 
 pub fill-requires : goal.fill-requires
 fill-requires g c = let s = c.requires.in_bounds.0 in record {
-  standing = ((c.in-Ok.at, refl, record { walked = s.walked; stands = next_stands s.walked.graph _ _ c.args.passed (c.reach.ensures s) c.in-Ok.is }), omega (arith, c.requires.tables.1, c.reach.auto));
+  standing = (record { walked = s.walked; stands = next_stands s.walked.graph _ _ c.args.passed (c.reach.ensures s) c.in-Ok.is }, omega (arith, c.requires.tables.1, c.reach.auto));
   last_lt_limit = (c.requires.in_bounds.1, c.requires.in_bounds.2);
 }
 
 pub returns : goal.returns
-returns g c = λ s. inr (c.fill.ensures.filled s.walked.graph c.in-Ok.at s.walked.fits refl (next_stands s.walked.graph _ _ c.args.passed (c.reach.ensures s) c.in-Ok.is)).0
+returns g c = λ s. inr (c.fill.ensures.filled s.walked.graph s.walked.fits (next_stands s.walked.graph _ _ c.args.passed (c.reach.ensures s) c.in-Ok.is)).0
