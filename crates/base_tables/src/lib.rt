@@ -7,7 +7,7 @@ pub mod sets;
 pub mod trees;
 
 // A graph: of each node its parent (NONE: a root), of each leaf the set of roots that its dominance edges go to, and how
-// many dominance edges there are. Two graphs with the same nodes and edges are the same value.
+// many dominance edges there are: the number stays as it was where edges are taken out (`solve_cycle`).
 #[derive(Drop)]
 pub struct Graph {
     pub n: usize,

@@ -3,13 +3,13 @@ ghost use Rattle.std.specs.Prelude.{◌≡◌, true, ℕ, ◌≤◌, ◌<◌, lt
 ghost use Rattle.base_nodeset.specs.Set.{mem};
 ghost use Rattle.graph.specs.Graph.{Graph, leaf};
 ghost use Rattle.theory_forest.specs.Shape.{Shaped};
-ghost use Rattle.base_tables.specs.Trees.{Parents, InnerSet, RootSet, NodesWith, WithParent, WithNode, TreeOf, top_in, Filled, tied_in, Owners, Fits};
+ghost use Rattle.base_tables.specs.Trees.{Parents, InnerSet, RootSet, NodesWith, WithParent, WithNode, TreeOf, top_in, Filled, tied_in, Bounded, TreesOf, Owners, Fits};
 
 use base_nodeset::NodeSet;
 use graph::NONE;
 
 // How many nodes there are, which are leaves and which are roots, and of each node the root of its fragment.
-#[derive(Drop)]
+#[derive(Clone, Copy)]
 pub struct Trees {
     pub n: usize,
     pub leaves: NodeSet,
@@ -120,17 +120,38 @@ pub fn leaf_nodes(parent: &[u8], n: usize) -> NodeSet
     numbers(n).difference(inner_nodes(parent, n))
 }
 
+// The trees without their owners: of these the table says nothing yet.
+pub fn ends(parent: &[u8], n: usize) -> Trees
+    requires { Parents n parent.now }
+    ensures bounded { Bounded result × (result.n ≡ n) }
+    ensures trees_of { (g : Graph) → Shaped g → TreeOf g n parent.now → TreesOf g result }
+{
+    Trees {
+        n,
+        leaves: leaf_nodes(parent, n),
+        roots: root_nodes(parent, n),
+        owner: [0; 128],
+    }
+}
+
+impl Trees {
+    // The owners, where the ends are known.
+    pub fn fill_owners(&mut self, parent: &[u8])
+        requires { Parents self.old.n parent.now × Bounded self.old }
+        ensures ends { (self.new.n ≡ self.old.n) × (self.new.leaves ≡ self.old.leaves) × (self.new.roots ≡ self.old.roots) }
+        ensures bounded { Owners self.new }
+        ensures trees_of { (g : Graph) → Shaped g → TreeOf g self.old.n parent.now → TreesOf g self.old → Fits g self.new }
+    {
+        owners(parent, self.n, &mut self.owner);
+    }
+}
+
 pub fn read_trees(parent: &[u8], n: usize) -> Trees
     requires { Parents n parent.now }
     ensures bounded { Owners result × (result.n ≡ n) }
     ensures trees_of { (g : Graph) → Shaped g → TreeOf g n parent.now → Fits g result }
 {
-    let mut owner = [0u8; 128];
-    owners(parent, n, &mut owner);
-    Trees {
-        n,
-        leaves: leaf_nodes(parent, n),
-        roots: root_nodes(parent, n),
-        owner,
-    }
+    let mut trees = ends(parent, n);
+    trees.fill_owners(parent);
+    trees
 }

@@ -11,7 +11,7 @@ use crate::guide::reading;
 use crate::shape::{is_placing, single, solved};
 use base_nodeset::NodeSet;
 use base_tables::Graph;
-use base_tables::trees::read_trees;
+use base_tables::trees::ends;
 use solve_closure::placing_rows;
 
 mod guide;
@@ -30,7 +30,7 @@ pub fn check(graph: &Graph, placing: &[u8]) -> Answers
     ensures { (g : spec.Graph) (edges : ℕ) → Tables g graph.now.n graph.now.parent graph.now.heads edges →
         Answered g (take graph.now.n placing.now) result }
 {
-    let trees = read_trees(&graph.parent, graph.n);
+    let mut trees = ends(&graph.parent, graph.n);
     if !is_placing(placing, &trees) {
         return Answers::default();
     }
@@ -39,6 +39,7 @@ pub fn check(graph: &Graph, placing: &[u8]) -> Answers
     if !solved(&graph.heads, &under, graph.n) {
         return Answers::default();
     }
+    trees.fill_owners(&graph.parent);
     Answers {
         solved: true,
         configuration: single(placing, graph.n),
