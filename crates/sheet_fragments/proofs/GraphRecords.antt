@@ -1,8 +1,9 @@
 -- The records read off the tables are those of the graph that the tables hold.
 use Prim.Native.Nat.{ℕ, ◌≤◌, ◌<◌}
-use mathlib.Core.Path.{◌≡◌, ap, ◌∙◌}
+use mathlib.Core.Path.{◌≡◌, refl, sym, ap, ◌∙◌}
 use mathlib.Core.List.{List, [], ◌∷◌}
 use mathlib.Core.Bool.{true, false, cond}
+use native.Mathlib.Nat.{one-mul}
 use native.Mathlib.Omega.{arith}
 use lib.Dec.{ltb}
 use lib.ListN.{length, get_or, take, length-take}
@@ -12,18 +13,33 @@ use Rattle.base_finite.proofs.Laws.{by_bool, and_true, and_false, count_ext, spr
 use Rattle.base_nodeset.specs.Set.{mem}
 use Rattle.base_nodeset.specs.declared.NodeSet.{NodeSet}
 use Rattle.base_finite.proofs.Bounds.{least_ext, count_cut, least_cut}
+use Rattle.base_finite.proofs.Runs.{length_spread}
 use Rattle.graph.specs.Graph.{Graph, left, root, leaf, leaf_of}
 use Rattle.graph.specs.Rule1.{lowest_leaf_of}
 use Rattle.graph.specs.Table.{fragment, fragments}
-use Rattle.theory_edges.proofs.Ends.{leaf_below}
+use Rattle.theory_edges.proofs.Ends.{root_below, leaf_below}
 use Rattle.theory_forest.specs.Shape.{Shaped}
 use Rattle.theory_forest.proofs.Shape.{well_formed_shaped}
 use Rattle.theory_forest.proofs.Fragments.{root_leaf, leaf_of_parts}
+use Rattle.base_tables.specs.Tables.{Tables}
 use Rattle.base_tables.specs.Trees.{InnerSet, RootSet, TreeOf, top_in, Filled as Owned, node_in}
 use Rattle.base_tables.proofs.TreeLaws.{tree_of, roots_are, inner_is, own_is}
 use Rattle.sheet_fragments.specs.Owner.{leaf_in, fragment_in, records_in, records_below, RecordsOf}
 use Rattle.sheet_fragments.specs.Records.{FragmentsOf, FragmentsIn}
 use Rattle.sheet_fragments.specs.declared.records.Records.{Records}
+
+-- as many records as roots
+pub fragments_length : (g : Graph) → length (fragments g) ≡ count g.nodes (root g)
+unfolding fragments
+fragments_length g = length_spread 1 g.nodes (root g) (λ r. fragment g r ∷ []) (λ r. refl) ∙ one-mul (count g.nodes (root g))
+
+pub roots_counted : {g : Graph} {n : ℕ} {parents : List ℕ} {heads : List NodeSet} {edges : ℕ} → Tables g n parents heads edges
+    → (roots : NodeSet) → RootSet n parents roots → count 128 (mem roots) ≡ length (fragments g)
+roots_counted {g} t roots is_roots =
+    let shaped = well_formed_shaped t.well_formed in
+    count_ext 128 (mem roots) (root g) (λ v _. roots_are shaped (tree_of t) roots is_roots v)
+    ∙ count_cut 128 g.nodes (root g) shaped.few_nodes (λ v _ h. root_below g v h)
+    ∙ sym (fragments_length g)
 
 module _ (g : Graph) (parents : List ℕ) (shaped : Shaped g) (tree : TreeOf g g.nodes parents) where
   few : g.nodes ≤ 128

@@ -1,3 +1,4 @@
 pub mod Owned
 pub mod GraphRecords
 pub mod Storing
+pub mod Answers

@@ -19,12 +19,12 @@ unfolding leaf_in
 leaves_are n owner inner nodes leaves r is d v = d v ∙ rw (is v)
 
 -- the record is that of the set of leaves
-pub fragment_of : (n : ℕ) (owner : List ℕ) (inner nodes leaves : NodeSet) (r : ℕ) → NodesWith n owner r nodes → Difference nodes inner leaves
-    → record { root = r; lowest_leaf = least 128 (mem leaves); leaves = count 128 (mem leaves) } ≡ fragment_in n owner inner r
+pub fragment_of : (n : ℕ) (owner : List ℕ) (inner nodes leaves : NodeSet) (r lowest number : ℕ) → NodesWith n owner r nodes → Difference nodes inner leaves
+    → lowest ≡ least 128 (mem leaves) → number ≡ count 128 (mem leaves) → record { root = r; lowest_leaf = lowest; leaves = number } ≡ fragment_in n owner inner r
 unfolding fragment_in
-fragment_of n owner inner nodes leaves r is d =
+fragment_of n owner inner nodes leaves r lowest number is d l c =
     let same = leaves_are n owner inner nodes leaves r is d in
-    rw (least_ext 128 (mem leaves) (leaf_in n owner inner r) (λ k _. same k), count_ext 128 (mem leaves) (leaf_in n owner inner r) (λ k _. same k))
+    rw (l, c, least_ext 128 (mem leaves) (leaf_in n owner inner r) (λ k _. same k), count_ext 128 (mem leaves) (leaf_in n owner inner r) (λ k _. same k))
 
 module _ (n : ℕ) (owner : List ℕ) (inner roots : NodeSet) where
   pub records_none : records_below 0 n owner inner roots ≡ []

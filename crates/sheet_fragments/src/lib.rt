@@ -8,9 +8,11 @@ ghost use Rattle.std.proofs.lemmas.List.Edits.{sets};
 ghost use Rattle.format.specs.Sheet.{outcome};
 ghost use Rattle.sheet_fragments.specs.Table.{flat, Tabled};
 
+use base_tables::trees::root_nodes;
 use format::Refusal;
 use graph::Fragment;
-use records::read_records;
+use records::tabulate;
+use sheet_decode::read::read;
 
 // Three bytes a record: root, lowest leaf, number of leaves.
 fn put(records: &[Fragment], out: &mut [u8])
@@ -30,10 +32,13 @@ fn put(records: &[Fragment], out: &mut [u8])
 pub fn fragment_table(sheet: &[u8], out: &mut [u8]) -> Result<usize, Refusal>
     ensures { Tabled (outcome sheet.now) result out.old out.new }
 {
-    let records = read_records(sheet)?;
-    if out.len() < 3 * records.count {
+    let graph = read(sheet)?;
+    let roots = root_nodes(&graph.parent, graph.n);
+    let fragments = roots.count();
+    if out.len() < 3 * fragments {
         return Err(Refusal::SmallBuffer);
     }
+    let records = tabulate(&graph.parent, graph.n, roots);
     put(records.as_slice(), out);
     Ok(records.count)
 }

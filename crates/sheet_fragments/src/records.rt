@@ -1,7 +1,7 @@
 // The records of a sheet, for a lent table: one for each fragment, by ascending root.
 ghost use Rattle.std.specs.Prelude.{◌≡◌, ◌≤◌, length, take};
 ghost use Rattle.format.specs.Sheet.{outcome};
-ghost use Rattle.base_tables.specs.Trees.{Parents};
+ghost use Rattle.base_tables.specs.Trees.{Parents, RootSet};
 ghost use Rattle.sheet_fragments.specs.Owner.{fragment_in, RecordsOf};
 ghost use Rattle.sheet_fragments.specs.Records.{FragmentsIn, ReadsRecords, Prepares};
 
@@ -12,7 +12,7 @@ use graph::Fragment;
 use sheet_decode::read::read;
 
 // The first `count` of the fragments. No sheet has more fragments than nodes.
-#[derive(Drop)]
+#[derive(Clone, Copy)]
 pub struct Records {
     pub fragments: [Fragment; 128],
     pub count: usize,
@@ -62,24 +62,24 @@ fn fill(owner: &[u8], n: usize, inner: NodeSet, roots: NodeSet) -> Records
     Records { fragments, count }
 }
 
-// The records of a graph with these parents.
-fn tabulate(parent: &[u8], n: usize) -> Records
-    requires { Parents n parent.now }
+// The records of a graph with these parents and roots.
+pub(crate) fn tabulate(parent: &[u8], n: usize, roots: NodeSet) -> Records
+    requires { Parents n parent.now × RootSet n parent.now roots }
     ensures { FragmentsIn n parent.now result }
 {
     let inner = inner_nodes(parent, n);
-    let roots = root_nodes(parent, n);
     let mut owner = [0u8; 128];
     owners(parent, n, &mut owner);
     fill(&owner, n, inner, roots)
 }
 
 // The records of a sheet.
-pub(crate) fn read_records(sheet: &[u8]) -> Result<Records, Refusal>
+fn read_records(sheet: &[u8]) -> Result<Records, Refusal>
     ensures { ReadsRecords (outcome sheet.now) result }
 {
     let graph = read(sheet)?;
-    Ok(tabulate(&graph.parent, graph.n))
+    let roots = root_nodes(&graph.parent, graph.n);
+    Ok(tabulate(&graph.parent, graph.n, roots))
 }
 
 // For a table with room for so many records.
