@@ -1,13 +1,13 @@
 -- A list that is printed page by page: how it begins, the placings at hand, and what a page leaves.
-use Prim.Native.Nat.{ℕ, ◌≤◌, ◌<◌}
+use Prim.Native.Nat.{ℕ, ◌≤◌, ◌<◌, min}
 use mathlib.Core.Path.{◌≡◌, refl, sym, ap, subst, ◌∙◌}
 use mathlib.Core.List.{List, ◌++◌}
-use mathlib.Core.Bool.{true, false, ◌||◌, true≢false}
+use mathlib.Core.Bool.{Bool, true, false, cond, ◌||◌, true≢false}
 use mathlib.Core.Logic.{inl, inr, ⊎_elim}
 use native.Mathlib.Omega.{arith}
 use lib.Dec.{ltb}
 use lib.ListN.{length, drop}
-use borrow.Author.Tests.{ltb-true, ltb-false}
+use borrow.Author.Tests.{ltb-true, ltb-false, lt-ltb, le-ltb}
 use Rattle.std.proofs.lemmas.Option.{none-some}
 use Rattle.base_finite.specs.Stores.{Written}
 use Rattle.base_finite.proofs.Laws.{or_cases, or_none}
@@ -21,9 +21,10 @@ use Rattle.solve_walk.specs.States.{Walkable}
 use Rattle.solve_start.specs.Started.{WalkableOf}
 use Rattle.solve_stretch.specs.Stretch.{placings, Filled, Goes}
 use Rattle.base_tables.specs.declared.trees.Trees.{Trees}
+use Rattle.base_tables.specs.Trees.{Owners, Fits}
 use Rattle.solve_stretch.specs.declared.Stop.{Stop}
 use Rattle.show_page.specs.Pages.{lines, Held}
-use Rattle.show_list.specs.Run.{Underway, Printed, Begins}
+use Rattle.show_list.specs.Run.{AtHand, Underway, Printed, Begins, first_at_hand}
 use Rattle.show_list.specs.declared.Rest.{Rest}
 use Rattle.std.specs.Prelude.{Option, Some, None, IsSome, is_some}
 use Rattle.solve_levels.specs.Decisions.{Trail}
@@ -38,13 +39,14 @@ none_there (Some x) e = absurd (true≢false e)
 none_there None e = refl
 
 -- the placings at hand
-abbrev pub held_of : {g : Graph} {p : Rest} {states : List NodeSet} {trail : Trail} {held : List ℕ} → Underway g p states trail held → Held p.trees p.passed p.stop.last held
-held_of {g} u = record { graph = g; shaped = u.fits.shaped; trees = u.fits.trees; within = omega (arith, u.within); rest = u.rest; placed = u.placed }
+abbrev pub held_of : {g : Graph} {p : Rest} {states : List NodeSet} {trail : Trail} {held : List ℕ} → AtHand g p states trail held → Held p.trees p.passed p.stop.last held
+held_of {g} a = record { graph = g; shaped = a.fits.shaped; trees = a.fits.trees; within = omega (arith, a.within); rest = a.rest; placed = a.placed }
 
 -- a list that goes on
-printed_on : {g : Graph} {p : Rest} {states : List NodeSet} {trail : Trail} {held : List ℕ} (bytes : ℕ) → Underway g p states trail held → {k : ℕ} → p.done ≡ k → Printed g k (record { bytes = bytes; next = Some p }) states trail held
-printed_on {g} {p} {states} {trail} {held} bytes u {k} is = record {
-  on = λ rest e. let same : p ≡ rest = grind arith in subst (λ (r : Rest). (r.done ≡ k) × Underway g r states trail held) same (is, u);
+printed_on : {g : Graph} {p : Rest} {states : List NodeSet} {trail : Trail} {held : List ℕ} (bytes : ℕ) → Underway g p states trail held
+    → Printed g (record { bytes = bytes; done = p.done; next = Some p }) states trail held
+printed_on {g} {p} {states} {trail} {held} bytes u = record {
+  on = λ rest e. let same : p ≡ rest = grind arith in subst (λ (r : Rest). (r.done ≡ p.done) × Underway g r states trail held) same (refl, u);
   ended = λ e. absurd (none-some p (sym e));
 }
 
@@ -58,75 +60,106 @@ pub begins : {g : Graph} {t : Trees} {rows : List NodeSet} → WalkableOf g t ro
     → ((s : Walkable t rows) → Filled s.walked.graph 0 old to.last held × Goes s.walked.graph trail states to)
     → (total : Count) → ((s : Walkable t rows) → total ≡ count_answer (length (listed s.walked.graph)))
     → {before after : List ℕ} {bytes : ℕ} → Written before 0 (count_line total) after bytes → bytes ≤ length before
-    → Begins g before (record { bytes = bytes; next = Some (record { done = 0; passed = 0; stop = to; trees = t }) }) states trail held after
+    → Begins g before (record { bytes = bytes; done = 0; next = Some (record { done = 0; passed = 0; stop = to; trees = t }) }) states trail held after
 begins {t = t} x to {held = held} {states} {trail} numbered walked total counts {before} {after} {bytes} line fits =
     let s = x.sheet in
     let w = walked s in
     let first : Rest = record { done = 0; passed = 0; stop = to; trees = t } in
     let underway : Underway s.walked.graph first states trail held = record {
-      table = s.walked.table;
-      fits = s.walked.fits;
-      from = omega arith;
-      to = omega arith;
-      within = w.0.within;
-      rest = _;
-      placed = w.0.bytes;
-      goes = w.1;
-      numbered = numbered;
+      at_hand = record {
+        table = s.walked.table;
+        fits = s.walked.fits;
+        from = omega arith;
+        to = omega arith;
+        within = w.0.within;
+        rest = _;
+        placed = w.0.bytes;
+        goes = w.1;
+        numbered = numbered;
+      };
       on = inr w.0.some;
     } in
     subst
-    (λ (g : Graph). Begins g before (record { bytes = bytes; next = Some first }) states trail held after)
+    (λ (g : Graph). Begins g before (record { bytes = bytes; done = 0; next = Some first }) states trail held after)
     x.is
     (record {
       some = omega (arith, w.0.some, w.0.within);
       shown = record { written = subst (λ (k : Count). Written before 0 (count_line k) after bytes) (counts s) line; fits = fits };
       more = refl;
-      printed = printed_on bytes underway refl;
+      start = refl;
+      printed = printed_on bytes underway;
     })
 
 -- all placings at hand are printed, and those that come next are in their place
-pub refilled : {g : Graph} {p : Rest} {states : List NodeSet} {trail : Trail} {held : List ℕ} → Underway g p states trail held → p.stop.last ≤ p.done
+pub refilled : {g : Graph} {p : Rest} {states : List NodeSet} {trail : Trail} {held : List ℕ} → AtHand g p states trail held → p.stop.last ≤ p.done
     → (to : Stop) {states' : List NodeSet} {trail' : Trail} {held' : List ℕ} → Filled g p.stop.last held to.last held' → Goes g trail' states' to → (IsSome to.next → to.last < limit)
     → Underway g (record { done = p.done; passed = p.done; stop = to; trees = p.trees }) states' trail' held'
-refilled {g} {p} {held = held} u all to w goes numbered =
-    let same : p.stop.last ≡ p.done = omega (arith, u.to) in
+refilled {g} {p} {held = held} a all to w goes numbered =
+    let same : p.stop.last ≡ p.done = omega (arith, a.to) in
     let rest : List ℕ = drop (length (placings (listed g) p.stop.last to.last)) held in
     record {
-      table = u.table;
-      fits = u.fits;
-      from = omega arith;
-      to = omega (arith, w.some);
-      within = w.within;
-      rest = rest;
-      placed = w.bytes ∙ ap (λ (k : ℕ). placings (listed g) k to.last ++ rest) same;
-      goes = goes;
-      numbered = numbered;
+      at_hand = record {
+        table = a.table;
+        fits = a.fits;
+        from = omega arith;
+        to = omega (arith, w.some);
+        within = w.within;
+        rest = rest;
+        placed = w.bytes ∙ ap (λ (k : ℕ). placings (listed g) k to.last ++ rest) same;
+        goes = goes;
+        numbered = numbered;
+      };
       on = inr (omega (arith, w.some));
     }
 
 -- the lines up to the number k are printed
-module _ {g : Graph} {p : Rest} {states : List NodeSet} {trail : Trail} {held : List ℕ} (u : Underway g p states trail held) (bytes k : ℕ) (after : p.done ≤ k) (before : k ≤ p.stop.last) where
+module _ {g : Graph} {p : Rest} {states : List NodeSet} {trail : Trail} {held : List ℕ} (a : AtHand g p states trail held) (bytes k : ℕ) (after : p.done ≤ k) (before : k ≤ p.stop.last) where
   pub paged : (is_some p.stop.next || ltb k p.stop.last) ≡ true
-      → Printed g k (record { bytes = bytes; next = Some (record { done = k; passed = p.passed; stop = p.stop; trees = p.trees }) }) states trail held
+      → Printed g (record { bytes = bytes; done = k; next = Some (record { done = k; passed = p.passed; stop = p.stop; trees = p.trees }) }) states trail held
   paged is = printed_on bytes (record {
-    table = u.table;
-    fits = u.fits;
-    from = omega (arith, u.from);
-    to = before;
-    within = u.within;
-    rest = u.rest;
-    placed = u.placed;
-    goes = u.goes;
-    numbered = u.numbered;
+    at_hand = record {
+      table = a.table;
+      fits = a.fits;
+      from = omega (arith, a.from);
+      to = before;
+      within = a.within;
+      rest = a.rest;
+      placed = a.placed;
+      goes = a.goes;
+      numbered = a.numbered;
+    };
     on = ⊎_elim (λ (e : is_some p.stop.next ≡ true). inl e) (λ (l : ltb k p.stop.last ≡ true). inr (ltb-true k p.stop.last l)) (or_cases (is_some p.stop.next) (ltb k p.stop.last) is);
-  }) refl
+  })
 
-  pub paged_last : (is_some p.stop.next || ltb k p.stop.last) ≡ false → Printed g k (record { bytes = bytes; next = None }) states trail held
-  paged_last is =
-      let none = or_none (is_some p.stop.next) (ltb k p.stop.last) is in
-      let last : k ≡ p.stop.last = omega (arith, ltb-false k p.stop.last none.1, before) in
-      record { on = λ rest e. absurd (none-some rest e); ended = λ e. last ∙ u.goes.ended (none_there p.stop.next none.0) }
+  module _ (is : (is_some p.stop.next || ltb k p.stop.last) ≡ false) where
+    last : k ≡ p.stop.last
+    last = omega (arith, ltb-false k p.stop.last (or_none (is_some p.stop.next) (ltb k p.stop.last) is).1, before)
+
+    all : k ≡ min (length (listed g)) limit
+    all = last ∙ a.goes.ended (none_there p.stop.next (or_none (is_some p.stop.next) (ltb k p.stop.last) is).0)
+
+    pub paged_last : {states' : List NodeSet} {trail' : Trail} {held' : List ℕ} → Printed g (record { bytes = bytes; done = k; next = None }) states' trail' held'
+    paged_last = record { on = λ rest e. absurd (none-some rest e); ended = λ e. all }
+
+    pub left_at_hand : {from : ℕ} → p.passed ≡ from → {t : Trees} → p.trees ≡ t → AtHand g (record { done = k; passed = from; stop = record { last = k; next = None }; trees = t }) states trail held
+    left_at_hand {from} is_from {t} is_trees = record {
+      table = subst (λ (x : Trees). Owners x) is_trees a.table;
+      fits = subst (λ (x : Trees). Fits g x) is_trees a.fits;
+      from = omega (arith, a.from, is_from, after);
+      to = omega arith;
+      within = omega (arith, all);
+      rest = a.rest;
+      placed = a.placed ∙ ap (λ (i : ℕ). placings (listed g) i p.stop.last ++ a.rest) is_from ∙ ap (λ (i : ℕ). placings (listed g) from i ++ a.rest) (sym last);
+      goes = record { on = λ at e. absurd (none-some at e); ended = λ e. all };
+      numbered = λ e. absurd (true≢false (sym e));
+    }
+
+-- where the placings at hand begin
+pub kept : (p : Rest) → p.done < p.stop.last → p.passed ≡ first_at_hand p
+kept p l = sym (ap (λ (b : Bool). cond b p.passed p.done) (lt-ltb p.done p.stop.last l))
+
+pub begun_anew : (p : Rest) → p.stop.last ≤ p.done → p.done ≡ first_at_hand p
+begun_anew p l = sym (ap (λ (b : Bool). cond b p.passed p.done) (le-ltb p.done p.stop.last l))
 
 -- from the number where they begin
 pub lines_from_there : (g : Graph) {from to : ℕ} → from ≡ to → (last : ℕ) {old new : List ℕ} {end : ℕ} → Written old 0 (lines g from last) new end → Written old 0 (lines g to last) new end

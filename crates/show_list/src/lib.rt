@@ -9,7 +9,7 @@ ghost use Rattle.theory_list.specs.Readings.{listed};
 ghost use Rattle.solve_walk.specs.States.{Walkable};
 ghost use Rattle.solve_stretch.specs.Stretch.{Filled, Goes};
 ghost use Rattle.show_input.specs.Input.{Ready};
-ghost use Rattle.show_list.specs.Run.{Underway, Begins, NextPage};
+ghost use Rattle.show_list.specs.Run.{Underway, Begins, NextPage, first_at_hand};
 
 use base_nodeset::NodeSet;
 use base_tables::trees::Trees;
@@ -22,10 +22,12 @@ use solve_numbered::count;
 use solve_stretch::{Stop, fill};
 use solve_walk::steps::first;
 
-// A page: how many bytes it has, and what the next one goes on from, if another follows.
+// A page, and what the next one goes on from, if another follows.
 #[derive(Drop)]
 pub struct Page {
     pub bytes: usize,
+    // The lines of the first `done` readings are written.
+    pub done: usize,
     pub next: Option<Rest>,
 }
 
@@ -92,6 +94,7 @@ pub fn first_page(
     let bytes = count_line(readings, out, 0);
     Page {
         bytes,
+        done: 0,
         next: Some(Rest {
             done: 0,
             passed: 0,
@@ -106,6 +109,7 @@ fn refill(rest: Rest, states: &mut [NodeSet], trail: &mut [Decision], placings: 
     requires underway { (g : graph.Graph) × Underway g rest states.old trail.old placings.old }
     requires in_bounds { (16384 ≤ length trail.old) × (128 ≤ length placings.old) }
     ensures done_lt_last { result.done < result.stop.last }
+    ensures kept { (result.passed ≡ first_at_hand rest) × (result.trees ≡ rest.trees) }
     ensures underway_2 { (g : graph.Graph) → Underway g rest states.old trail.old placings.old →
         Underway g result states.new trail.new placings.new × (result.done ≡ rest.done) }
 {
@@ -160,6 +164,7 @@ pub fn next_page(
     };
     Page {
         bytes: lines.bytes,
+        done: lines.last,
         next,
     }
 }

@@ -40,7 +40,7 @@ pub loop-page-smaller : goal.loop-page-smaller
 loop-page-smaller g c =
     let u = c.loop-page.invariant.4 c.in-Some.rest c.in-Some.is in
     let x = c.next_page-page.ensures u.0 u.1 in
-    rw c.in-Some.is (fewer c.next_page-page.result.next c.in-Some.rest.done x.to (λ rest e. (x.printed.on rest e).0) x.further (omega (arith, x.within)))
+    rw c.in-Some.is (fewer c.next_page-page.result.next c.in-Some.rest.done c.next_page-page.result.done (λ rest e. (x.printed.on rest e).0) x.further (omega (arith, x.within)))
 
 pub loop-page-preserved : goal.loop-page-preserved
 loop-page-preserved g c =
