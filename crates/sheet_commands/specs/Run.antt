@@ -17,5 +17,10 @@ abbrev pub over : Result Graph Refusal → Run
 over (Ok g) = ended g
 over (Err why) = stopped why
 
+-- the answer to a lent graph, with what it holds afterwards
+abbrev pub filled : Result Unit Refusal → Graph → Result Graph Refusal
+filled (Ok u) g = Ok g
+filled (Err why) g = Err why
+
 abbrev pub Ran : Form → List ℕ → Result Graph Refusal → Type 0
 Ran form s r = Reached (labels_in form s) (all_commands form s) [] (over r)

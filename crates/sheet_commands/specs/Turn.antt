@@ -1,5 +1,5 @@
 -- One command taken: the answer, and the value that holds the edges read so far.
-use Rattle.std.specs.Prelude.{ℕ, ◌+◌, ◌≤◌, ◌≡◌, List, [], ◌∷◌, cond, not, ◌||◌, ◌&&◌, eqb, leb, get_or, set, length, Result, Ok, Err, OnOk, MatchResult}
+use Rattle.std.specs.Prelude.{ℕ, ◌+◌, ◌≤◌, ◌≡◌, List, [], ◌∷◌, cond, not, ◌||◌, ◌&&◌, eqb, leb, get_or, set, length, Result, Ok, Err, OnOk}
 use Rattle.graph.specs.Graph.{Edge, among, different, entered, none}
 use Rattle.base_tables.specs.Rows.{in_row}
 use Rattle.base_tables.specs.Tables.{Holds}
@@ -23,10 +23,6 @@ begun End = Err CommandRefusal
 -- the value holds no edge
 abbrev pub Blank : Graph → Type 0
 Blank g = (n : ℕ) → Holds n [] [] g.parent g.heads g.edges
-
--- so many nodes and no edge, or the refusal
-abbrev pub Begins : Result ℕ Refusal → Result Graph Refusal → Type 0
-Begins first r = MatchResult r (λ g. (first ≡ Ok g.n) × Blank g) (λ why. first ≡ Err why)
 
 -- a node's number: 3
 abbrev pub node_answer : ℕ → ℕ → Result ℕ Refusal

@@ -1,6 +1,6 @@
 // One command taken: its edge goes into the graph, or its refusal comes out.
 ghost use Rattle.std.specs.Prelude.{◌≡◌, ◌≤◌, OnErr};
-ghost use Rattle.sheet_commands.specs.Turn.{begun, Begins, node_answer, tree_answer, dominance_answer, TreeAfter, HeadsAfter, Turned};
+ghost use Rattle.sheet_commands.specs.Turn.{begun, Blank, node_answer, tree_answer, dominance_answer, TreeAfter, HeadsAfter, Turned};
 
 use crate::command::Command;
 use base_nodeset::NodeSet;
@@ -11,9 +11,9 @@ use graph::NONE;
 // Different dominance edges of a sheet.
 const MOST_EDGES: usize = 255;
 
-// The first command: 3. So many nodes, and no edge.
-pub(crate) fn begin(command: Command) -> Result<Graph, Refusal>
-    ensures { Begins (begun command) result }
+// The first command: 3. So many nodes.
+pub(crate) fn begin(command: Command) -> Result<usize, Refusal>
+    ensures { result ≡ begun command }
 {
     let Command::Nodes(nodes) = command else {
         return Err(Refusal::Command);
@@ -22,12 +22,19 @@ pub(crate) fn begin(command: Command) -> Result<Graph, Refusal>
     if n < 1 || 128 < n {
         return Err(Refusal::Range);
     }
-    Ok(Graph {
-        n,
+    Ok(n)
+}
+
+// No edge: what the commands are read into.
+pub fn blank() -> Graph
+    ensures { Blank result }
+{
+    Graph {
+        n: 0,
         parent: [NONE; 128],
         heads: [NodeSet::empty(); 128],
         edges: 0,
-    })
+    }
 }
 
 // The node with this number: 3.

@@ -14,7 +14,7 @@ use Rattle.base_tables.specs.declared.Graph.{Graph}
 use Rattle.base_tables.proofs.Parents.{parents_held}
 use Rattle.sheet_commands.specs.Turn.{Reached}
 use Rattle.sheet_commands.specs.Labels.{labels_in}
-use Rattle.sheet_commands.specs.Run.{Ran}
+use Rattle.sheet_commands.specs.Run.{filled, Ran}
 use Rattle.sheet_decode.specs.Judge.{Judged, Fitted}
 use Rattle.sheet_decode.specs.Read.{ReadsWritten}
 
@@ -38,7 +38,7 @@ module _ (f : Form) (s : List ℕ) where
 
       module _ (q : verdict ≡ Ok tt) (fit : Result Unit Refusal)
           (fitted : (t d : List Edge) (edges : ℕ) → Holds v.n t d v.parent v.heads edges → Fitted v.n t d (labels_in f s) fit) where
-        pub labels_refused : (why : Refusal) → fit ≡ Err why → ReadsWritten (all_commands f s) (Err why)
+        labels_refused : (why : Refusal) → fit ≡ Err why → ReadsWritten (all_commands f s) (Err why)
         unfolding Reached
         labels_refused why i =
             let r = ran in
@@ -46,10 +46,17 @@ module _ (f : Form) (s : List ℕ) where
             let fitted_so = rw i at (fitted r.0 r.1 v.edges r.4) in
             r.3 ∙ judged_so (labels_in f s) ∙ fitted_so
 
-        pub labels_accepted : fit ≡ Ok tt → ReadsWritten (all_commands f s) (Ok v)
+        labels_accepted : fit ≡ Ok tt → ReadsWritten (all_commands f s) (Ok v)
         unfolding Reached
         labels_accepted i =
             let r = ran in
             let judged_so = rw q at (judged r.0 r.1 v.edges r.4) in
             let fitted_so = rw i at (fitted r.0 r.1 v.edges r.4) in
             (says (graph_with v.n r.0 r.1) (labels_in f s), r.3 ∙ judged_so (labels_in f s) ∙ fitted_so, record { nodes = refl; tables = r.4 })
+
+        pub labels_read : ReadsWritten (all_commands f s) (filled fit v)
+        labels_read = of_fit fit refl
+          where
+            of_fit : (x : Result Unit Refusal) → fit ≡ x → ReadsWritten (all_commands f s) (filled x v)
+            of_fit (Ok u) i = labels_accepted i
+            of_fit (Err why) i = labels_refused why i

@@ -1,5 +1,5 @@
 -- The first command begins a run, and each turn leaves it further on.
-use mathlib.Core.Path.{◌≡◌, refl}
+use mathlib.Core.Path.{◌≡◌, refl, sym}
 use native.Mathlib.Nat.{zero-add}
 use Rattle.std.proofs.Common.{rules}
 use Rattle.std.specs.Prelude.{Ok}
@@ -13,45 +13,45 @@ returns-in_err-next c = let refused = first_refused c.args.form c.args.sheet.now
 
 pub returns-in_err-graph : goal.returns-in_err-graph
 returns-in_err-graph c =
-    let refused = begin_refused c.args.form c.args.sheet.now _ c.in_ok-next.ensures.taken _ c.in_err-graph.ensures in search (rules, refused)
+    let refused = begin_refused c.args.form c.args.sheet.now _ c.in_ok-next.ensures.taken _ (sym c.in_err-graph.ensures) in search (rules, refused)
 
-pub loop-graph-init : goal.loop-graph-init
-loop-graph-init c =
-    let first = running_first c.args.form c.args.sheet.now _ c.in_ok-next.ensures.taken c.in_ok-graph.graph c.in_ok-graph.ensures.0 c.in_ok-graph.ensures.1 in
+pub loop-command-init : goal.loop-command-init
+loop-command-init c =
+    let first = running_first c.args.form c.args.sheet.now _ c.in_ok-next.ensures.taken _ (sym c.in_ok-graph.ensures) c.requires in
     rw c.in_ok-next.ensures.moved (record { same_sheet = refl; same_form = refl; running = rw zero-add first })
 
 pub turn-requires : goal.turn-requires
-turn-requires c = few_nodes _ _ _ _ c.loop-graph.invariant.running
+turn-requires c = few_nodes _ _ _ _ c.loop-command.invariant.running
 
 pub returns-in_err-command : goal.returns-in_err-command
 returns-in_err-command c =
-    let i = c.loop-graph.invariant in
-    let refused = next_refused c.args.form c.args.sheet.now _ c.loop-graph.graph i.running _ (rw (i.same_sheet, i.same_form) at c.in_err-command.ensures.taken) in search (rules, refused)
+    let i = c.loop-command.invariant in
+    let refused = next_refused c.args.form c.args.sheet.now _ c.loop-command.graph i.running _ (rw (i.same_sheet, i.same_form) at c.in_err-command.ensures.taken) in search (rules, refused)
 
 pub returns-in-End : goal.returns-in-End
 returns-in-End c =
-    let i = c.loop-graph.invariant in
-    next_ended c.args.form c.args.sheet.now _ c.loop-graph.graph i.running (rw (i.same_sheet, i.same_form, c.in-End.is) at c.in_ok-command.ensures.taken)
+    let i = c.loop-command.invariant in
+    next_ended c.args.form c.args.sheet.now _ c.loop-command.graph i.running (rw (i.same_sheet, i.same_form, c.in-End.is) at c.in_ok-command.ensures.taken)
 
 -- the command that is taken, seen from where the loop stands
-here : (c : In_ok-command) → Ok c.in_ok-command.command ≡ step_at c.args.form c.args.sheet.now c.loop-graph.reader.at
-here c = let i = c.loop-graph.invariant in rw (i.same_sheet, i.same_form) at c.in_ok-command.ensures.taken
+here : (c : In_ok-command) → Ok c.in_ok-command.command ≡ step_at c.args.form c.args.sheet.now c.loop-command.reader.at
+here c = let i = c.loop-command.invariant in rw (i.same_sheet, i.same_form) at c.in_ok-command.ensures.taken
 
 pub returns-in_err-turn-in_default : goal.returns-in_err-turn-in_default
 returns-in_err-turn-in_default c =
-    let refused = turn_refused c.args.form c.args.sheet.now _ c.loop-graph.graph c.loop-graph.invariant.running c.in_ok-command.command (here (goal.at.returns-in_err-turn-in_default c).In_ok-command)
+    let refused = turn_refused c.args.form c.args.sheet.now _ c.loop-command.graph c.loop-command.invariant.running c.in_ok-command.command (here (goal.at.returns-in_err-turn-in_default c).In_ok-command)
     c.turn.result c.turn.new.graph c.turn.ensures.turned _ c.in_err-turn-in_default.was in search (rules, refused)
 
-pub loop-graph-smaller : goal.loop-graph-smaller
-loop-graph-smaller c =
-    rw c.in_ok-command.ensures.moved (nearer c.args.form c.args.sheet.now c.loop-graph.reader.at c.in_ok-command.command (here (goal.at.loop-graph-smaller c).In_ok-command))
+pub loop-command-smaller : goal.loop-command-smaller
+loop-command-smaller c =
+    rw c.in_ok-command.ensures.moved (nearer c.args.form c.args.sheet.now c.loop-command.reader.at c.in_ok-command.command (here (goal.at.loop-command-smaller c).In_ok-command))
 
-pub loop-graph-preserved : goal.loop-graph-preserved
-loop-graph-preserved c =
-    let i = c.loop-graph.invariant in
+pub loop-command-preserved : goal.loop-command-preserved
+loop-command-preserved c =
+    let i = c.loop-command.invariant in
     rw c.in_ok-command.ensures.moved
     (record {
       same_sheet = i.same_sheet;
       same_form = i.same_form;
-      running = running_on c.args.form c.args.sheet.now _ c.loop-graph.graph i.running c.in_ok-command.command (here (goal.at.loop-graph-preserved c).In_ok-command) c.turn.result c.turn.new.graph c.turn.ensures.turned c.in_default.not-End c.in_ok-turn-in_default.was;
+      running = running_on c.args.form c.args.sheet.now _ c.loop-command.graph i.running c.in_ok-command.command (here (goal.at.loop-command-preserved c).In_ok-command) c.turn.result c.turn.new.graph c.turn.ensures.turned c.in_default.not-End c.in_ok-turn-in_default.was;
     })

@@ -3,12 +3,12 @@ use Rattle.std.proofs.Common.{◌≡◌, ◌-◌, length}
 use Rattle.sheet_commands.specs.Run.{Running}
 use Rattle.sheet_commands.proofs.run.commands.Given as goal
 
-abbrev pub invariant-loop-graph : goal.invariant-loop-graph
-invariant-loop-graph l = record {
+abbrev pub invariant-loop-command : goal.invariant-loop-command
+invariant-loop-command l = record {
   same_sheet : l.reader.sheet.now ≡ l.fn.sheet;
   same_form : l.reader.form ≡ l.fn.form;
   running : Running l.fn.form l.fn.sheet l.reader.at l.graph;
 }
 
-abbrev pub decreases-loop-graph : goal.decreases-loop-graph
-decreases-loop-graph l = length l.fn.sheet - l.reader.at
+abbrev pub decreases-loop-command : goal.decreases-loop-command
+decreases-loop-command l = length l.fn.sheet - l.reader.at
