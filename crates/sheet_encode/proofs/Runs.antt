@@ -1,10 +1,16 @@
 -- The bytes of the commands that a loop has passed.
-use Prim.Native.Nat.{ℕ, ◌+◌, ◌≤◌}
-use mathlib.Core.Path.{◌≡◌, refl}
+use Prim.Native.Nat.{ℕ, zero, suc, ◌+◌, ◌≤◌}
+use mathlib.Core.Path.{◌≡◌, refl, ap, ◌∙◌}
 use mathlib.Core.List.{List, [], ◌∷◌, ◌++◌}
-use lib.ListN.{length, get_or}
-use Rattle.base_finite.specs.Below.{spread}
-use Rattle.base_finite.proofs.Laws.{spread_more}
+use mathlib.Core.Bool.{Bool, true, false}
+use native.Mathlib.Nat.{add-zero}
+use native.Mathlib.Numerals.{add-one}
+use native.Mathlib.Omega.{arith}
+use lib.ListN.{length, get_or, take}
+use Rattle.std.specs.Prelude.{count_by}
+use Rattle.std.proofs.lemmas.List.Sums.{count_by_more_yes, count_by_more_no}
+use Rattle.base_finite.specs.Below.{count, spread}
+use Rattle.base_finite.proofs.Laws.{by_bool, spread_more}
 use Rattle.base_finite.proofs.Runs.{spread_longer}
 use Rattle.base_nodeset.specs.declared.NodeSet.{NodeSet}
 use Rattle.base_tables.specs.Rows.{nothing}
@@ -39,3 +45,15 @@ dominance_part_longer l n heads h = spread_longer (λ k. row_bytes k (get_or hea
 -- the command of the dominance edge from l to r
 abbrev pub edge_command : ℕ → ℕ → List ℕ
 edge_command l r = 3 ∷ l ∷ r ∷ []
+
+-- as many of the first n entries pass a test as the library counts
+
+pub counted : (p : ℕ → Bool) (xs : List ℕ) (n : ℕ) → n ≤ length xs → count_by p (take n xs) ≡ count n (λ c. p (get_or xs c 0))
+unfolding count
+counted p xs zero h = refl
+counted p xs (suc n) h =
+    let before : count_by p (take n xs) ≡ count n (λ c. p (get_or xs c 0)) = counted p xs n (omega arith) in
+    rw (← add-one n)
+    (by_bool (p (get_or xs n 0))
+    (λ (e : p (get_or xs n 0) ≡ true). count_by_more_yes p xs n 0 (omega arith) e ∙ ap (λ (k : ℕ). k + 1) before ∙ rw e)
+    (λ (e : p (get_or xs n 0) ≡ false). count_by_more_no p xs n 0 (omega arith) e ∙ before ∙ rw (e, add-zero)))

@@ -1,16 +1,14 @@
 -- The tests of labels on tables that hold a sheet's edges and its labels are those of the definitions.
-use Prim.Native.Nat.{ℕ, zero, suc, ◌+◌, ◌≤◌, ◌<◌}
+use Prim.Native.Nat.{ℕ, ◌+◌, ◌≤◌, ◌<◌}
 use mathlib.Core.Path.{◌≡◌, refl, sym, ap, ap₂, ◌∙◌}
 use mathlib.Core.List.{List, [], ◌∷◌}
 use mathlib.Core.Bool.{Bool, true, false, cond, not}
 use native.Mathlib.Omega.{arith}
 use native.Mathlib.Nat.{add-zero}
-use native.Mathlib.Numerals.{add-one}
 use lib.Dec.{eqb, ltb}
-use lib.ListN.{length, get_or, take, length-append}
+use lib.ListN.{length, get_or, length-append}
 use borrow.Author.Tests.{eqb-true, eq-eqb, ne_eqb}
-use Rattle.std.specs.Prelude.{count_by, MatchBool}
-use Rattle.std.proofs.lemmas.List.Sums.{count_by_more_yes, count_by_more_no}
+use Rattle.std.specs.Prelude.{MatchBool}
 use Rattle.base_finite.specs.Below.{any, count}
 use Rattle.base_finite.proofs.Laws.{by_bool, test_ext, any_ext, any_at, any_none, any_found, count_ext, count_none, count_one_more}
 use Rattle.base_nodeset.specs.Set.{mem}
@@ -33,16 +31,6 @@ use Rattle.sheet_labels.specs.declared.table.Labels.{Labels}
 pub any_decided : (n : ℕ) (p : ℕ → Bool) (r : Bool) → MatchBool r ((k : ℕ) × (k < n) × (true ≡ p k)) ((k : ℕ) → k < n → false ≡ p k) → r ≡ any n p
 any_decided n p true h = sym (any_at n p h.0 h.1 (sym h.2))
 any_decided n p false h = sym (any_none n p (λ k l. sym (h k l)))
-
-pub counted : (p : ℕ → Bool) (xs : List ℕ) (n : ℕ) → n ≤ length xs → count_by p (take n xs) ≡ count n (λ c. p (get_or xs c 0))
-unfolding count
-counted p xs zero h = refl
-counted p xs (suc n) h =
-    let before : count_by p (take n xs) ≡ count n (λ c. p (get_or xs c 0)) = counted p xs n (omega arith) in
-    rw (← add-one n)
-    (by_bool (p (get_or xs n 0))
-    (λ (e : p (get_or xs n 0) ≡ true). count_by_more_yes p xs n 0 (omega arith) e ∙ ap (λ (k : ℕ). k + 1) before ∙ rw e)
-    (λ (e : p (get_or xs n 0) ≡ false). count_by_more_no p xs n 0 (omega arith) e ∙ before ∙ rw (e, add-zero)))
 
 -- as many nodes have v for their parent as v has children in the list
 parents_counted : (n : ℕ) (t : List Edge) (v : ℕ) → Within n t → single t ≡ true → v < none → count n (λ c. eqb (parent t c) v) ≡ length (spec.children t v)

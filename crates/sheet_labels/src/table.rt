@@ -7,7 +7,7 @@ ghost use Rattle.sheet_labels.specs.Keep.{Keeps};
 
 use base_nodeset::NodeSet;
 
-#[derive(Drop)]
+#[derive(Clone, Copy)]
 pub struct Labels {
     pub symbols: [u8; 128],
     pub labelled: NodeSet,

@@ -2,7 +2,7 @@ use Rattle.std.proofs.Common.{rules, ◌≡◌, ◌∙◌, take}
 use Rattle.std.specs.Prelude.{count_by, not}
 use native.Mathlib.Omega.{arith}
 use lib.Dec.{eqb}
-use Rattle.sheet_labels.proofs.Fits.{counted}
+use Rattle.sheet_encode.proofs.Runs.{counted}
 use Rattle.sheet_encode.specs.Tidy.{trees_in}
 use Rattle.sheet_encode.proofs.tree_edges.Goals as goal
 
