@@ -129,7 +129,7 @@ fn add_heads(heads: &[NodeSet], n: usize, rows: &mut [NodeSet])
     }
 }
 
-// The descent relation of the graph that the tables hold.
+// The descent relation of the graph.
 pub fn graph_rows(graph: &Graph, rows: &mut [NodeSet])
     requires { Parents graph.now.n graph.now.parent × Long rows.old }
     ensures { (g : spec.Graph) (edges : ℕ) → Tables g graph.now.n graph.now.parent graph.now.heads edges →

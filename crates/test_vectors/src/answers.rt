@@ -1,5 +1,5 @@
 // The calls lent a part of a buffer, and tests of what they answer and leave there.
-ghost use Rattle.std.specs.Prelude.{◌≤◌};
+ghost use Rattle.std.specs.Prelude.{◌≡◌, ◌≤◌, slice_index_or};
 
 use capi_put::put;
 use check_placing::Answers;
@@ -13,7 +13,9 @@ pub fn fails(right: bool) -> usize {
 }
 
 // The byte at a place, and 255 past the end.
-pub fn byte(table: &[u8], at: usize) -> u8 {
+pub fn byte(table: &[u8], at: usize) -> u8
+    ensures { result ≡ slice_index_or table.now at 255 }
+{
     match table.get(at) {
         Some(value) => *value,
         None => 255,

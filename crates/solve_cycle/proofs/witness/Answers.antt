@@ -9,15 +9,15 @@ use Rattle.theory_forest.proofs.Shape.{well_formed_shaped}
 use Rattle.base_tables.specs.declared.Graph.{Graph as Value}
 use Rattle.base_tables.specs.Rows.{in_row}
 use Rattle.base_tables.proofs.TreeLaws.{tables_parents}
-use Rattle.solve_cycle.specs.Thinning.{Unsolved, SameTrees, Thinned, before}
+use Rattle.solve_cycle.specs.Thinning.{Unsolved, Thinned, before}
 use Rattle.solve_cycle.proofs.Cycles.{lowest_of_lem, first_leaf_is, linked, ring_cycle}
 use Rattle.solve_cycle.proofs.witness.Goals as goal
 
 small : {value : Value} → Unsolved value → value.n ≤ 128
 small u = (tables_parents u.tables).few
 
-few : {value thin : Value} → Unsolved value → SameTrees value thin → thin.n ≤ 128
-few u same = omega (arith, small u, same.nodes)
+few : {value : Value} → Unsolved value → {n : ℕ} → n ≡ value.n → n ≤ 128
+few u nodes = omega (arith, small u, nodes)
 
 -- the first edge
 
@@ -48,20 +48,20 @@ minimize-requires c =
 
 -- the thinned out graph has as many nodes
 pub first_leaf-leaf-requires : goal.first_leaf-leaf-requires
-first_leaf-leaf-requires c = few c.requires.0 c.minimize.ensures.same
+first_leaf-leaf-requires c = few c.requires.0 c.minimize.ensures.same.nodes
 
 pub offset_bounds-thin-leaf : goal.offset_bounds-thin-leaf
-offset_bounds-thin-leaf c = omega (arith, first_small (c.minimize.ensures.thinned c.requires.0) (few c.requires.0 c.minimize.ensures.same) c.first_leaf-leaf.result c.first_leaf-leaf.ensures)
+offset_bounds-thin-leaf c = omega (arith, first_small (c.minimize.ensures.thinned c.requires.0) (few c.requires.0 c.minimize.ensures.same.nodes) c.first_leaf-leaf.result c.first_leaf-leaf.ensures)
 
 pub bounds-thin-leaf : goal.bounds-thin-leaf
-bounds-thin-leaf c = first_small (c.minimize.ensures.thinned c.requires.0) (few c.requires.0 c.minimize.ensures.same) c.first_leaf-leaf.result c.first_leaf-leaf.ensures
+bounds-thin-leaf c = first_small (c.minimize.ensures.thinned c.requires.0) (few c.requires.0 c.minimize.ensures.same.nodes) c.first_leaf-leaf.result c.first_leaf-leaf.ensures
 
 pub take_out-requires : goal.take_out-requires
 take_out-requires c =
     let t = c.minimize.ensures.thinned c.requires.0 in
     let l = c.first_leaf-leaf in
     let e = edge_of t l.result l.ensures c.lowest-root.result c.lowest-root.ensures in
-    (first_small t (few c.requires.0 c.minimize.ensures.same) l.result l.ensures, e.0)
+    (first_small t (few c.requires.0 c.minimize.ensures.same.nodes) l.result l.ensures, e.0)
 
 pub ring-requires : goal.ring-requires
 ring-requires c =
