@@ -26,16 +26,16 @@ use Rattle.show_page.proofs.Texts.{lines_none, lines_join, printed_is}
 use Rattle.solve_levels.specs.Decisions.{Trail}
 
 -- the pages from some number on are the lines from there on
-rest_printed : (g : Graph) (s : State) (texts : List (List ℕ)) → Printed g s.page s.states s.trail s.held → Pages s texts
-    → joined texts ≡ lines g s.page.done (min (length (listed g)) limit)
+rest_printed : (g : Graph) (k : ℕ) (s : State) (texts : List (List ℕ)) → Printed g k s.page s.states s.trail s.held → Pages s texts
+    → joined texts ≡ lines g k (min (length (listed g)) limit)
 unfolding joined
-rest_printed g s _ u (ended e) = sym (ap (lines g s.page.done) (sym (u.ended e)) ∙ lines_none g s.page.done)
-rest_printed g s _ u (further t {texts} rest e call p) =
+rest_printed g k s _ u (ended e) = sym (ap (lines g k) (sym (u.ended e)) ∙ lines_none g k)
+rest_printed g k s _ u (further t {texts} rest e call p) =
     let here = u.on rest e in
     let n = call g here.1 in
     ap (λ (ls : List ℕ). ls ++ joined texts) (shown_is _ _ _ _ n.shown)
-    ∙ ap (λ (ls : List ℕ). lines g rest.done t.page.done ++ ls) (rest_printed g t texts n.printed p)
-    ∙ lines_join g rest.done t.page.done (min (length (listed g)) limit) (omega (arith, n.further)) n.within (omega arith)
+    ∙ ap (λ (ls : List ℕ). lines g rest.done n.to ++ ls) (rest_printed g n.to t texts n.printed p)
+    ∙ lines_join g rest.done n.to (min (length (listed g)) limit) (omega (arith, n.further)) n.within (omega arith)
     ∙ ap (λ (i : ℕ). lines g i (min (length (listed g)) limit)) here.0
 
 -- a refusal's line, of the sheet or of the sentence
@@ -62,7 +62,7 @@ list_printed x s texts b p =
     printed_is g
     ∙ sym (ap (λ (ls : List ℕ). ls ++ joined texts) (shown_is _ _ _ _ b.shown)
     ∙ ap (λ (ls : List ℕ). count_line (count_answer (length (listed g))) ++ ls)
-    (rest_printed g s texts b.printed p ∙ ap (λ (k : ℕ). lines g k (min (length (listed g)) limit)) b.start)) in
+    (rest_printed g 0 s texts b.printed p)) in
     subst (PrintedList (accepted x)) all (readings (listed g) (listing_exists g (begun b).1.at_hand.fits.shaped) b.some)
 
 pages_printed : (o : Outcome) {old new : List ℕ} (i : Input) → ComesTo old (Ok i) new o

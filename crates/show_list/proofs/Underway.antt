@@ -43,9 +43,9 @@ abbrev pub held_of : {g : Graph} {p : Rest} {states : List NodeSet} {trail : Tra
 held_of {g} a = record { graph = g; shaped = a.fits.shaped; trees = a.fits.trees; within = omega (arith, a.within); rest = a.rest; placed = a.placed }
 
 -- a list that goes on
-printed_on : {g : Graph} {p : Rest} {states : List NodeSet} {trail : Trail} {held : List ℕ} (bytes : ℕ) → Underway g p states trail held
-    → Printed g (record { bytes = bytes; done = p.done; next = Some p }) states trail held
-printed_on {g} {p} {states} {trail} {held} bytes u = record {
+printed_on : {g : Graph} {p : Rest} {states : List NodeSet} {trail : Trail} {held : List ℕ} (bytes done : ℕ) → Underway g p states trail held
+    → Printed g p.done (record { bytes = bytes; done = done; next = Some p }) states trail held
+printed_on {g} {p} {states} {trail} {held} bytes done u = record {
   on = λ rest e. let same : p ≡ rest = grind arith in subst (λ (r : Rest). (r.done ≡ p.done) × Underway g r states trail held) same (refl, u);
   ended = λ e. absurd (none-some p (sym e));
 }
@@ -87,7 +87,7 @@ begins {t = t} x to {held = held} {states} {trail} numbered walked total counts 
       shown = record { written = subst (λ (k : Count). Written before 0 (count_line k) after bytes) (counts s) line; fits = fits };
       more = refl;
       start = refl;
-      printed = printed_on bytes underway;
+      printed = printed_on bytes 0 underway;
     })
 
 -- all placings at hand are printed, and those that come next are in their place
@@ -113,10 +113,10 @@ refilled {g} {p} {held = held} a all to w goes numbered =
     }
 
 -- the lines up to the number k are printed
-module _ {g : Graph} {p : Rest} {states : List NodeSet} {trail : Trail} {held : List ℕ} (a : AtHand g p states trail held) (bytes k : ℕ) (after : p.done ≤ k) (before : k ≤ p.stop.last) where
-  pub paged : (is_some p.stop.next || ltb k p.stop.last) ≡ true
-      → Printed g (record { bytes = bytes; done = k; next = Some (record { done = k; passed = p.passed; stop = p.stop; trees = p.trees }) }) states trail held
-  paged is = printed_on bytes (record {
+module _ {g : Graph} {p : Rest} {states : List NodeSet} {trail : Trail} {held : List ℕ} (a : AtHand g p states trail held) (k : ℕ) (after : p.done ≤ k) (before : k ≤ p.stop.last) where
+  pub paged : (bytes done : ℕ) → (is_some p.stop.next || ltb k p.stop.last) ≡ true
+      → Printed g k (record { bytes = bytes; done = done; next = Some (record { done = k; passed = p.passed; stop = p.stop; trees = p.trees }) }) states trail held
+  paged bytes done is = printed_on bytes done (record {
     at_hand = record {
       table = a.table;
       fits = a.fits;
@@ -138,8 +138,8 @@ module _ {g : Graph} {p : Rest} {states : List NodeSet} {trail : Trail} {held : 
     all : k ≡ min (length (listed g)) limit
     all = last ∙ a.goes.ended (none_there p.stop.next (or_none (is_some p.stop.next) (ltb k p.stop.last) is).0)
 
-    pub paged_last : {states' : List NodeSet} {trail' : Trail} {held' : List ℕ} → Printed g (record { bytes = bytes; done = k; next = None }) states' trail' held'
-    paged_last = record { on = λ rest e. absurd (none-some rest e); ended = λ e. all }
+    pub paged_last : (bytes done : ℕ) → {states' : List NodeSet} {trail' : Trail} {held' : List ℕ} → Printed g k (record { bytes = bytes; done = done; next = None }) states' trail' held'
+    paged_last bytes done = record { on = λ rest e. absurd (none-some rest e); ended = λ e. all }
 
     pub left_at_hand : {from : ℕ} → p.passed ≡ from → {t : Trees} → p.trees ≡ t → AtHand g (record { done = k; passed = from; stop = record { last = k; next = None }; trees = t }) states trail held
     left_at_hand {from} is_from {t} is_trees = record {

@@ -33,11 +33,10 @@ pub record Underway (g : Graph) (p : Rest) (states : List NodeSet) (trail : Trai
   pub at_hand : AtHand g p states trail held
   pub on : IsSome p.stop.next ⊎ (p.done < p.stop.last)
 
--- after a page: the list of g is printed up to the number `done`, and is underway if another page follows; or else `done` is its last
--- number
-pub record Printed (g : Graph) (p : Page) (states : List NodeSet) (trail : Trail) (held : List ℕ) : Type 0 where
-  pub on : (rest : Rest) → p.next ≡ Some rest → (rest.done ≡ p.done) × Underway g rest states trail held
-  pub ended : p.next ≡ None → p.done ≡ min (length (listed g)) limit
+-- after a page: the list of g is printed up to the number k, and is underway if another page follows, or else k is its last number
+pub record Printed (g : Graph) (k : ℕ) (p : Page) (states : List NodeSet) (trail : Trail) (held : List ℕ) : Type 0 where
+  pub on : (rest : Rest) → p.next ≡ Some rest → (rest.done ≡ k) × Underway g rest states trail held
+  pub ended : p.next ≡ None → k ≡ min (length (listed g)) limit
 
 -- line 1 of the list, and another page follows
 pub record Begins (g : Graph) (old : List ℕ) (r : Page) (states : List NodeSet) (trail : Trail) (held new : List ℕ) : Type 0 where
@@ -45,7 +44,16 @@ pub record Begins (g : Graph) (old : List ℕ) (r : Page) (states : List NodeSet
   pub shown : Shows (count_line (count_answer (length (listed g)))) old r.bytes new
   pub more : IsSome r.next
   pub start : r.done ≡ 0
-  pub printed : Printed g r states trail held
+  pub printed : Printed g 0 r states trail held
+
+-- a further page of the list of g: one or more of the lines after those that are printed. Where it ends is left open: document 01 does
+-- not speak of pages.
+pub record NextPage (g : Graph) (p : Rest) (old : List ℕ) (r : Page) (states : List NodeSet) (trail : Trail) (held new : List ℕ) : Type 0 where
+  pub to : ℕ
+  pub shown : Shows (lines g p.done to) old r.bytes new
+  pub further : p.done < to
+  pub within : to ≤ min (length (listed g)) limit
+  pub printed : Printed g to r states trail held
 
 -- after how many readings the placings begin that are at hand for the page after p: those of before or, where all of these are printed,
 -- those that come next
@@ -56,13 +64,10 @@ first_at_hand p = cond (ltb p.done p.stop.last) p.passed p.done
 abbrev pub last_at_hand : Rest → Page → Rest
 last_at_hand p r = record { done = r.done; passed = first_at_hand p; stop = record { last = r.done; next = None }; trees = p.trees }
 
--- a further page of the list of g: one or more of the lines after those that are printed. Where it ends is left open: document 01 does
--- not speak of pages.
-pub record NextPage (g : Graph) (p : Rest) (old : List ℕ) (r : Page) (states : List NodeSet) (trail : Trail) (held new : List ℕ) : Type 0 where
-  pub shown : Shows (lines g p.done r.done) old r.bytes new
-  pub further : p.done < r.done
-  pub within : r.done ≤ min (length (listed g)) limit
-  pub printed : Printed g r states trail held
+-- what `next_page` promises: such a page, which tells where it ends; and where no other follows it, what is at hand then
+pub record Continues (g : Graph) (p : Rest) (old : List ℕ) (r : Page) (states : List NodeSet) (trail : Trail) (held new : List ℕ) : Type 0 where
+  pub page : NextPage g p old r states trail held new
+  pub told : page.to ≡ r.done
   pub at_hand : r.next ≡ None → AtHand g (last_at_hand p r) states trail held
 
 -- What a run has after a page, in the memory that it lends.
@@ -77,7 +82,7 @@ pub record State : Type 0 where
 abbrev pub shown_by : State → List ℕ
 shown_by s = take s.page.bytes s.out
 
--- the pages after the one that s has, as `next_page` promises them, until none follows
+-- the pages after the one that s has, until none follows: each a `NextPage`, as `next_page` promises them
 pub data Pages : State → List (List ℕ) → Type 0 where
   ended : {s : State} → s.page.next ≡ None → Pages s []
   further : {s : State} (t : State) {texts : List (List ℕ)} (rest : Rest) → s.page.next ≡ Some rest

@@ -9,7 +9,7 @@ ghost use Rattle.theory_list.specs.Readings.{listed};
 ghost use Rattle.solve_walk.specs.States.{Walkable};
 ghost use Rattle.solve_stretch.specs.Stretch.{Filled, Goes};
 ghost use Rattle.show_input.specs.Input.{Ready};
-ghost use Rattle.show_list.specs.Run.{Underway, Begins, NextPage, first_at_hand};
+ghost use Rattle.show_list.specs.Run.{Underway, Begins, Continues, first_at_hand};
 
 use base_nodeset::NodeSet;
 use base_tables::trees::Trees;
@@ -146,7 +146,7 @@ pub fn next_page(
     requires underway { (g : graph.Graph) × Underway g rest states.old trail.old placings.old }
     requires in_bounds { (16384 ≤ length trail.old) × (128 ≤ length placings.old) × (1100 ≤ length out.old) }
     ensures { (g : graph.Graph) → Underway g rest states.old trail.old placings.old →
-        NextPage g rest out.old result states.new trail.new placings.new out.new }
+        Continues g rest out.old result states.new trail.new placings.new out.new }
 {
     let held = refill(rest, states, trail, placings);
     let stop = held.stop;

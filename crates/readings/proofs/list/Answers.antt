@@ -27,23 +27,23 @@ next_page-page-requires-clause-underway g c = c.loop-page.invariant.4 c.in-Some.
 pub slice_bounds-out-end-in-Some : goal.slice_bounds-out-end-in-Some
 slice_bounds-out-end-in-Some g c =
     let u = c.loop-page.invariant.4 c.in-Some.rest c.in-Some.is in
-    let x = c.next_page-page.ensures u.0 u.1 in
+    let x = (c.next_page-page.ensures u.0 u.1).page in
     omega (arith, x.shown.fits, c.loop-page.invariant.3, c.next_page-page.auto.out)
 
 pub slice_bounds-write_all-end-in-Some : goal.slice_bounds-write_all-end-in-Some
 slice_bounds-write_all-end-in-Some g c =
     let u = c.loop-page.invariant.4 c.in-Some.rest c.in-Some.is in
-    let x = c.next_page-page.ensures u.0 u.1 in
+    let x = (c.next_page-page.ensures u.0 u.1).page in
     sym (length-take-le _ _ (omega (arith, x.shown.fits, c.loop-page.invariant.3, c.next_page-page.auto.out)))
 
 pub loop-page-smaller : goal.loop-page-smaller
 loop-page-smaller g c =
     let u = c.loop-page.invariant.4 c.in-Some.rest c.in-Some.is in
-    let x = c.next_page-page.ensures u.0 u.1 in
-    rw c.in-Some.is (fewer c.next_page-page.result.next c.in-Some.rest.done c.next_page-page.result.done (λ rest e. (x.printed.on rest e).0) x.further (omega (arith, x.within)))
+    let x = (c.next_page-page.ensures u.0 u.1).page in
+    rw c.in-Some.is (fewer c.next_page-page.result.next c.in-Some.rest.done x.to (λ rest e. (x.printed.on rest e).0) x.further (omega (arith, x.within)))
 
 pub loop-page-preserved : goal.loop-page-preserved
 loop-page-preserved g c =
     let u = c.loop-page.invariant.4 c.in-Some.rest c.in-Some.is in
-    let x = c.next_page-page.ensures u.0 u.1 in
+    let x = (c.next_page-page.ensures u.0 u.1).page in
     (search rules, search rules, search rules, search rules, λ rest e. (u.0, (x.printed.on rest e).1))

@@ -1,5 +1,5 @@
 -- The lines after those that are printed.
-use mathlib.Core.Path.{sym, ◌∙◌}
+use mathlib.Core.Path.{refl, sym, ◌∙◌}
 use native.Mathlib.Omega.{arith}
 use Rattle.show_list.proofs.Underway.{held_of, paged, paged_last, left_at_hand, lines_from_there}
 use Rattle.std.proofs.lemmas.Option.{none-some}
@@ -17,13 +17,17 @@ returns-then-follows c =
     let w = c.refill-held.ensures.underway_2 g u in
     let l = c.fill_page-lines.ensures in
     record {
-      shown = record {
-        written = lines_from_there g w.1 c.fill_page-lines.result.last (l.written (held_of w.0.at_hand));
-        fits = omega (arith, l.bytes_in_bounds.0, c.fill_page-lines.auto.out);
+      page = record {
+        to = c.fill_page-lines.result.last;
+        shown = record {
+          written = lines_from_there g w.1 c.fill_page-lines.result.last (l.written (held_of w.0.at_hand));
+          fits = omega (arith, l.bytes_in_bounds.0, c.fill_page-lines.auto.out);
+        };
+        further = omega (arith, l.bytes_in_bounds.3 c.refill-held.ensures.done_lt_last, w.1);
+        within = omega (arith, l.bytes_in_bounds.1, w.0.at_hand.within);
+        printed = paged w.0.at_hand _ l.bytes_in_bounds.2 l.bytes_in_bounds.1 _ _ (sym c.follows.ensures ∙ c.if-follows.true);
       };
-      further = omega (arith, l.bytes_in_bounds.3 c.refill-held.ensures.done_lt_last, w.1);
-      within = omega (arith, l.bytes_in_bounds.1, w.0.at_hand.within);
-      printed = paged w.0.at_hand _ _ l.bytes_in_bounds.2 l.bytes_in_bounds.1 (sym c.follows.ensures ∙ c.if-follows.true);
+      told = refl;
       at_hand = λ e. absurd (none-some _ (sym e));
     }
 
@@ -33,13 +37,17 @@ returns-else-follows c =
     let w = c.refill-held.ensures.underway_2 g u in
     let l = c.fill_page-lines.ensures in
     record {
-      shown = record {
-        written = lines_from_there g w.1 c.fill_page-lines.result.last (l.written (held_of w.0.at_hand));
-        fits = omega (arith, l.bytes_in_bounds.0, c.fill_page-lines.auto.out);
+      page = record {
+        to = c.fill_page-lines.result.last;
+        shown = record {
+          written = lines_from_there g w.1 c.fill_page-lines.result.last (l.written (held_of w.0.at_hand));
+          fits = omega (arith, l.bytes_in_bounds.0, c.fill_page-lines.auto.out);
+        };
+        further = omega (arith, l.bytes_in_bounds.3 c.refill-held.ensures.done_lt_last, w.1);
+        within = omega (arith, l.bytes_in_bounds.1, w.0.at_hand.within);
+        printed = paged_last w.0.at_hand _ l.bytes_in_bounds.2 l.bytes_in_bounds.1 (sym c.follows.ensures ∙ c.if-follows.false) _ _;
       };
-      further = omega (arith, l.bytes_in_bounds.3 c.refill-held.ensures.done_lt_last, w.1);
-      within = omega (arith, l.bytes_in_bounds.1, w.0.at_hand.within);
-      printed = paged_last w.0.at_hand _ _ l.bytes_in_bounds.2 l.bytes_in_bounds.1 (sym c.follows.ensures ∙ c.if-follows.false);
+      told = refl;
       at_hand = λ e.
-          left_at_hand w.0.at_hand 0 _ l.bytes_in_bounds.2 l.bytes_in_bounds.1 (sym c.follows.ensures ∙ c.if-follows.false) c.refill-held.ensures.kept.0 c.refill-held.ensures.kept.1;
+          left_at_hand w.0.at_hand _ l.bytes_in_bounds.2 l.bytes_in_bounds.1 (sym c.follows.ensures ∙ c.if-follows.false) c.refill-held.ensures.kept.0 c.refill-held.ensures.kept.1;
     }
